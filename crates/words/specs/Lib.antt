@@ -1,0 +1,4 @@
+-- Goals and books as words, one to a node: what the engine's storage holds.
+pub mod Word
+pub mod Flat
+pub mod Held

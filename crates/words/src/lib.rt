@@ -1,0 +1,1 @@
+// Goals and books as words: definitions and laws only, no code.
