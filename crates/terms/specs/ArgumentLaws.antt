@@ -8,7 +8,7 @@ use mathlib.Core.List.{[], append-nil}
 use lib.ListN.{take}
 use Rattle.terms.specs.Node.{Expr}
 use Rattle.terms.specs.Row.{Row, row-end, row-var, span}
-use Rattle.terms.specs.Subst.{Subst, apply, itself, Unifies}
+use Rattle.terms.specs.Subst.{Subst, apply, itself}
 use Rattle.terms.specs.Unify.{unify}
 use Rattle.terms.specs.Argument.{firsts, Unifiable, Clashes-at, clash-after, clash}
 use Rattle.terms.specs.RowLaws.{row-split, first-row}
@@ -32,7 +32,7 @@ clashes-once a b j k p q =
 
 -- what a trial of n arguments says by its number
 pub data Tried (a b : Expr) (n : ℕ) : ℕ → Type 0 where
-  unified : Unifiable a b n → Tried a b n 0
+  unified : ((j : ℕ) → j ≤ n → Unifiable a b j) → Tried a b n 0
   clashed : {k : ℕ} → k ≤ n → Clashes-at a b k → Tried a b n k
 
 -- no arguments are no nodes
@@ -58,7 +58,7 @@ module _ {n : ℕ} {a b : Expr} (p : Row n a) (q : Row n b) where
           on (λ j c. elim (decLt j (suc k)) [ yes d ↦ well j d | no d ↦ (let o : suc k ≡ j = omega arith in subst (Unifiable a b) o here) ])
 
   tried-after : (k m : ℕ) → k + m ≡ n → ((j : ℕ) → j < suc k → Unifiable a b j) → Tried a b n (clash-after k m a b)
-  tried-after k zero l well = unified (well n (omega arith))
+  tried-after k zero l well = unified (λ j c. well j (omega arith))
   tried-after k (suc m) l well = tried-one k m (omega arith) well (λ more. tried-after (suc k) m (omega arith) more)
 
   none-tried : (j : ℕ) → j < 1 → Unifiable a b j
