@@ -4,14 +4,15 @@ use native.Mathlib.Decide.{decLt}
 use native.Mathlib.Omega.{arith}
 use mathlib.Core.Path.{_≡_, refl, sym as inv, ap, subst, _∙_}
 use mathlib.Core.Option.{Option, none, some}
-use mathlib.Core.List.{[], append-nil}
-use lib.ListN.{take}
+use mathlib.Core.List.{[], _++_, append-nil}
+use lib.ListN.{take, drop, take-append-drop}
 use Rattle.terms.specs.Node.{Expr}
 use Rattle.terms.specs.Row.{Row, row-end, row-var, span}
-use Rattle.terms.specs.Subst.{Subst, apply, itself}
+use Rattle.terms.specs.Subst.{Subst, apply, itself, Unifies}
 use Rattle.terms.specs.Unify.{unify}
 use Rattle.terms.specs.Argument.{firsts, Unifiable, Clashes-at, clash-after, clash}
-use Rattle.terms.specs.RowLaws.{row-split, first-row}
+use Rattle.terms.specs.RowLaws.{row-split, row-unique, first-row}
+use Rattle.terms.specs.SubstLaws.{apply-append, apply-row}
 use Rattle.terms.specs.UnifyLaws.{unify-sound, unify-complete}
 
 -- all the arguments
@@ -32,7 +33,7 @@ clashes-once a b j k p q =
 
 -- what a trial of n arguments says by its number
 pub data Tried (a b : Expr) (n : ℕ) : ℕ → Type 0 where
-  unified : ((j : ℕ) → j ≤ n → Unifiable a b j) → Tried a b n 0
+  unified : Unifiable a b n → Tried a b n 0
   clashed : {k : ℕ} → k ≤ n → Clashes-at a b k → Tried a b n k
 
 -- no arguments are no nodes
@@ -58,7 +59,7 @@ module _ {n : ℕ} {a b : Expr} (p : Row n a) (q : Row n b) where
           on (λ j c. elim (decLt j (suc k)) [ yes d ↦ well j d | no d ↦ (let o : suc k ≡ j = omega arith in subst (Unifiable a b) o here) ])
 
   tried-after : (k m : ℕ) → k + m ≡ n → ((j : ℕ) → j < suc k → Unifiable a b j) → Tried a b n (clash-after k m a b)
-  tried-after k zero l well = unified (λ j c. well j (omega arith))
+  tried-after k zero l well = unified (well n (omega arith))
   tried-after k (suc m) l well = tried-one k m (omega arith) well (λ more. tried-after (suc k) m (omega arith) more)
 
   none-tried : (j : ℕ) → j < 1 → Unifiable a b j
@@ -68,3 +69,23 @@ module _ {n : ℕ} {a b : Expr} (p : Row n a) (q : Row n b) where
   -- the number says what it means
   pub clash-tried : Tried a b n (clash n a b)
   clash-tried = tried-after 0 n (omega arith) none-tried
+
+-- what unifies n arguments together unifies fewer
+module _ {n : ℕ} {a b : Expr} (p : Row n a) (q : Row n b) where
+  pub unifiable-less : (k : ℕ) → k ≤ n → Unifiable a b n → Unifiable a b k
+  unifiable-less k l (θ, (ok, e)) =
+      let parts : (c : Expr) → apply θ (firsts k c) ++ apply θ (drop (span k c) c) ≡ apply θ c =
+      λ c. inv (apply-append θ (firsts k c) (drop (span k c) c)) ∙ ap (apply θ) (take-append-drop (span k c) c) in
+      let whole : apply θ a ≡ apply θ b = rw (firsts-all p, firsts-all q) at e in
+      (θ, (ok, row-unique (apply-row θ ok (firsts-row k l p)) (apply-row θ ok (firsts-row k l q)) (apply θ (drop (span k a) a)) (apply θ (drop (span k b) b)) (parts a ∙ whole ∙ inv (parts b)) .0))
+
+  -- a trial says one number
+  pub tried-once : {j k : ℕ} → Tried a b n j → Tried a b n k → j ≡ k
+  tried-once (unified u) (unified v) = refl
+  tried-once (unified u) (clashed {k = k} l c) = absurd (c .clash (unifiable-less k l u))
+  tried-once (clashed {k = k} l c) (unified u) = absurd (c .clash (unifiable-less k l u))
+  tried-once (clashed {k = j} l c) (clashed {k = k} m d) = clashes-once a b j k c d
+
+  -- and so the number that is computed
+  pub tried-clash : {k : ℕ} → Tried a b n k → k ≡ clash n a b
+  tried-clash t = tried-once t (clash-tried p q)
