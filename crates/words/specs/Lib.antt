@@ -2,3 +2,5 @@
 pub mod Word
 pub mod Flat
 pub mod Held
+pub mod WordLaws
+pub mod HeldLaws

@@ -1,0 +1,29 @@
+-- `checks::build::chain` meets its contract. Assumes nothing.
+use borrow.Author.Needs.{needs}
+use Prim.Native.Nat.{_-_, _≤_}
+use mathlib.Core.Path.{_≡_}
+use lib.ListN.{length}
+use Rattle.checks.proofs.build.chain.Statement.{statement}
+use Rattle.checks.proofs.build.chain.Tie as tie
+
+abbrev Inv-loop : tie.InvT-loop
+Inv-loop area₀ used count n₀ v₀ t6 area n v = (n ≤ length area) × (length area ≡ length area₀)
+
+abbrev μ-loop : tie.MeasureT-loop
+μ-loop area₀ used count n₀ v₀ t6 area n v = count - v
+
+pub chain-spec : {M : Type 1} → statement M
+chain-spec =
+    tie.close
+    (tie.spec
+    Inv-loop
+    μ-loop
+    (λ c. search needs)
+    (λ c. search needs)
+    (λ c κs. search needs)
+    (λ c κs. search needs)
+    (λ c. search needs)
+    (λ c. search needs)
+    (λ c. search needs)
+    (λ c. search needs)
+    (λ c. search needs))

@@ -1,0 +1,51 @@
+/* Pitxargole, the run for C firmware (document 01). Link with the archive that `rt staticlib engine` writes. */
+#ifndef PITXARGOLE_H
+#define PITXARGOLE_H
+
+#include <stddef.h>
+#include <stdint.h>
+
+#ifdef __cplusplus
+extern "C" {
+#endif
+
+/* A goal area has at least so many bytes. */
+#define PITXARGOLE_AREA 16387
+
+/* Codes. The input was refused, and the goal area is as it was: */
+#define PITXARGOLE_AREA_SHORT 1    /* goal area too short */
+#define PITXARGOLE_BOOK_KIND 2     /* record missing, its kind not allowed there, or a byte after the end */
+#define PITXARGOLE_BOOK_CUT 3      /* the record's body is cut off */
+#define PITXARGOLE_BOOK_RANGE 4    /* arity or number of formulas outside its range */
+#define PITXARGOLE_BOOK_SIZE 5     /* a size is passed */
+#define PITXARGOLE_BOOK_VARIABLE 6 /* variable number above the next unused one */
+#define PITXARGOLE_QUERY_KIND 12
+#define PITXARGOLE_QUERY_CUT 13
+#define PITXARGOLE_QUERY_RANGE 14
+#define PITXARGOLE_QUERY_SIZE 15
+#define PITXARGOLE_QUERY_VARIABLE 16
+/* The run closed, and its last goal's image stands at the front of the area: */
+#define PITXARGOLE_SOLVED 20 /* goal empty */
+#define PITXARGOLE_LOOP 21   /* the search never ends */
+#define PITXARGOLE_STUCK 22  /* no head unifies with the leftmost formula */
+#define PITXARGOLE_STEPS 23  /* steps used up */
+#define PITXARGOLE_ROOM 24   /* the next goal has over 512 formulas or 4,096 nodes */
+
+/* Runs the query by the book for at most `budget` steps. Every book and query, however damaged, gets one answer. The pointers are not
+   null, also where a length is 0, and `area` overlaps neither book nor query. */
+uint64_t pitxargole_run(uint32_t budget, const uint8_t *book, size_t book_length, const uint8_t *query, size_t query_length, uint8_t *area,
+                        size_t area_length);
+
+/* The parts of the answer. */
+static inline uint8_t pitxargole_code(uint64_t answer) { return (uint8_t)(answer & 0xff); }
+
+/* the place of the first fault for codes 1 to 19, and the bytes written otherwise */
+static inline uint32_t pitxargole_place_or_bytes(uint64_t answer) { return (uint32_t)(answer >> 8 & 0xffffff); }
+
+static inline uint32_t pitxargole_steps(uint64_t answer) { return (uint32_t)(answer >> 32); }
+
+#ifdef __cplusplus
+}
+#endif
+
+#endif

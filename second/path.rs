@@ -1,0 +1,169 @@
+// The path and its detection states.
+use crate::image;
+use crate::read;
+use crate::tree::{Clause, Formula, Goal, Term, Tree, essentially_the_same, moved, unused};
+use crate::unify::{Solution, unify};
+use std::collections::HashMap;
+use std::rc::Rc;
+
+#[derive(Default, Clone, Copy, PartialEq, Debug)]
+pub struct Answer {
+    pub code: u8,
+    pub place: u32,
+    pub steps: u32,
+    pub span: u32,
+    pub bytes: u32,
+    pub clause: u32,
+}
+
+pub struct NoRoom;
+
+/// Writes a goal out anew under a solution: variables numbered by first appearance, at most 4,096 nodes.
+struct Copier<'a> {
+    solution: &'a Solution,
+    names: HashMap<u32, u32>,
+    nodes: usize,
+}
+
+impl Copier<'_> {
+    fn another_node(&mut self) -> Result<(), NoRoom> {
+        self.nodes += 1;
+        if self.nodes > 4096 { Err(NoRoom) } else { Ok(()) }
+    }
+
+    fn tree(&mut self, tree: &Tree) -> Result<Tree, NoRoom> {
+        self.another_node()?;
+        let value = self.solution.value(tree);
+        Ok(Rc::new(match &*value {
+            Term::Variable(number) => {
+                let next = self.names.len() as u32;
+                Term::Variable(*self.names.entry(*number).or_insert(next))
+            }
+            Term::Constant(symbol) => Term::Constant(*symbol),
+            Term::Compound(symbol, inner) => Term::Compound(*symbol, self.trees(inner)?),
+        }))
+    }
+
+    fn trees(&mut self, trees: &[Tree]) -> Result<Vec<Tree>, NoRoom> {
+        trees.iter().map(|t| self.tree(t)).collect()
+    }
+
+    fn formula(&mut self, formula: &Formula) -> Result<Formula, NoRoom> {
+        self.another_node()?;
+        Ok(Formula { predicate: formula.predicate, arguments: self.trees(&formula.arguments)? })
+    }
+}
+
+/// The first clause whose head unifies with the leftmost formula.
+fn fitting(clauses: &[Clause], goal: &Goal) -> Option<(usize, u32, Solution)> {
+    let apart = unused(goal);
+    clauses.iter().enumerate().find_map(|(number, clause)| {
+        if !clause.head.same_predicate(&goal[0]) {
+            return None;
+        }
+        unify(&goal[0], &moved(&clause.head, apart)).map(|solution| (number, apart, solution))
+    })
+}
+
+/// The formula replaced by the body, the unifier applied throughout, the variables numbered anew.
+fn next(clause: &Clause, apart: u32, solution: &Solution, goal: &Goal) -> Result<Goal, NoRoom> {
+    let mut copier = Copier { solution, names: HashMap::new(), nodes: 0 };
+    let mut made = Vec::new();
+    for formula in &clause.body {
+        made.push(copier.formula(&moved(formula, apart))?);
+    }
+    for formula in &goal[1..] {
+        made.push(copier.formula(formula)?);
+    }
+    if made.len() > 512 { Err(NoRoom) } else { Ok(made) }
+}
+
+struct State {
+    t: u32,
+    length: usize,
+    formula: Option<Formula>,
+    saved_at: u32,
+    goal: Goal,
+}
+
+impl State {
+    fn looped(&self) -> bool {
+        match &self.formula {
+            Some(saved) => self.goal.len() >= self.length && essentially_the_same(saved, &self.goal[0]),
+            None => false,
+        }
+    }
+
+    fn save(&mut self) {
+        self.length = self.goal.len();
+        self.formula = Some(self.goal[0].clone());
+        self.saved_at = self.t;
+    }
+}
+
+fn on_schedule(t: u32) -> bool {
+    t == 0 || t.is_power_of_two()
+}
+
+/// Goes along the path to the closing state: its code and span, and the state.
+fn follow(clauses: &[Clause], query: Goal, budget: u32) -> (u8, u32, State) {
+    let mut state = State { t: 0, length: 0, formula: None, saved_at: 0, goal: query };
+    loop {
+        if state.goal.is_empty() {
+            return (20, 0, state);
+        }
+        if state.looped() {
+            return (21, state.t - state.saved_at, state);
+        }
+        let Some((number, apart, solution)) = fitting(clauses, &state.goal) else { return (22, 0, state) };
+        if state.t == budget {
+            return (23, 0, state);
+        }
+        let Ok(goal) = next(&clauses[number], apart, &solution, &state.goal) else { return (24, 0, state) };
+        if on_schedule(state.t) || state.goal.len() < state.length {
+            state.save();
+        }
+        state.goal = goal;
+        state.t += 1;
+    }
+}
+
+fn refused(refusal: read::Refusal) -> Answer {
+    Answer { code: refusal.code, place: refusal.place, ..Answer::default() }
+}
+
+fn inputs(book: &[u8], query: &[u8], area: &[u8]) -> Result<(Vec<Clause>, Goal), Answer> {
+    if area.len() < 16387 {
+        return Err(Answer { code: 1, ..Answer::default() });
+    }
+    let clauses = read::book(book).map_err(refused)?;
+    Ok((clauses, read::query(query).map_err(refused)?))
+}
+
+fn write(goal: &Goal, area: &mut [u8]) -> u32 {
+    let image = image::of(goal);
+    area[..image.len()].copy_from_slice(&image);
+    image.len() as u32
+}
+
+pub fn run(book: &[u8], query: &[u8], budget: u32, area: &mut [u8]) -> Answer {
+    let (clauses, goal) = match inputs(book, query, area) {
+        Ok(good) => good,
+        Err(answer) => return answer,
+    };
+    let (code, span, state) = follow(&clauses, goal, budget);
+    Answer { code, place: 0, steps: state.t, span, bytes: write(&state.goal, area), clause: 0 }
+}
+
+pub fn step(book: &[u8], query: &[u8], area: &mut [u8]) -> Answer {
+    let (clauses, goal) = match inputs(book, query, area) {
+        Ok(good) => good,
+        Err(answer) => return answer,
+    };
+    if goal.is_empty() {
+        return Answer { code: 20, ..Answer::default() };
+    }
+    let Some((number, apart, solution)) = fitting(&clauses, &goal) else { return Answer { code: 22, ..Answer::default() } };
+    let Ok(goal) = next(&clauses[number], apart, &solution, &goal) else { return Answer { code: 24, ..Answer::default() } };
+    Answer { code: 25, place: 0, steps: 1, span: 0, bytes: write(&goal, area), clause: number as u32 }
+}
