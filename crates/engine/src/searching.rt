@@ -4,7 +4,7 @@ use crate::detector::Detector;
 use crate::detector::Verdict;
 use resolve::Move;
 use resolve::advance;
-use resolve::extent;
+use picking::extent;
 ghost use Prim.Native.Nat.{ℕ, _+_, _≤_, _<_};
 ghost use mathlib.Core.Path.{_≡_};
 ghost use mathlib.Core.Bool.{Bool};

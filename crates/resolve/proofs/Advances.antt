@@ -1,22 +1,20 @@
 -- The clause number i of the book, and the move by the first that fits.
 use Prim.Native.Nat.{ℕ, zero, suc, _+_, _-_, _≤_, _<_}
 use native.Mathlib.Omega.{arith}
-use mathlib.Core.Path.{_≡_, refl, sym as inv, ap, _∙_, subst}
-use mathlib.Core.Bool.{true, false}
+use mathlib.Core.Path.{_≡_, sym as inv, ap, _∙_, subst}
 use mathlib.Core.List.{List, [], _∷_}
 use lib.ListN.{length, getD, take, drop}
 use Rattle.terms.specs.Node.{Expr}
-use Rattle.search.specs.Next.{Clause, Book, Goal, Meets, First, None-meets, Resolved, Next-from}
+use Rattle.search.specs.Next.{Clause, Book, Goal, Meets, First, Resolved}
 use Rattle.search.specs.Step.{stuck, to, counted, next-from}
-use Rattle.search.specs.Room.{fits}
 use Rattle.search.specs.NextLaws.{stuck-iff}
 use Rattle.search.specs.SingleLaws.{clauses-drop, next-from-iff}
-use Rattle.words.specs.Held.{GoalIn, ClauseIn, Placed, clause-at, BookIn}
+use Rattle.words.specs.Held.{GoalIn, Placed, clause-at, BookIn}
 use Rattle.words.specs.HeldLaws.{formula-in, clauses-of}
 use Rattle.resolve.specs.declared.Move.{Move}
 use Rattle.resolve.specs.declared.Move.the-variants.{Stuck, Full, To}
 use Rattle.resolve.specs.Applying.{Stage}
-use Rattle.resolve.specs.Picking.{Picked}
+use Rattle.picking.specs.Picking.{Picked}
 use Rattle.resolve.specs.Advancing.{Follows, Advanced}
 
 -- the part of a goal that is its first formula

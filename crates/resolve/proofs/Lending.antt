@@ -1,19 +1,18 @@
 -- Storage lent for a problem.
-use Prim.Native.Nat.{ℕ, zero, suc, _+_, _-_, _≤_, _<_}
+use Prim.Native.Nat.{ℕ, _-_, _≤_}
 use native.Mathlib.Omega.{arith}
-use mathlib.Core.Path.{_≡_, refl, ap, _∙_, subst}
+use mathlib.Core.Path.{_≡_, _∙_, subst}
 use mathlib.Core.Path.{sym as inv}
-use mathlib.Core.List.{List, [], _∷_, _++_}
+use mathlib.Core.List.{List}
 use lib.ListN.{length, take, drop}
 use lib.Seq.{length-take-le, take-take}
 use Rattle.terms.specs.Node.{Expr}
-use Rattle.terms.specs.Row.{Row}
-use Rattle.words.specs.Word.{nodes, Fit, Fits}
+use Rattle.words.specs.Word.{Fit, Fits}
 use Rattle.unifier.specs.Solving.{Sides, Problem}
 use Rattle.unifier.specs.Trying.{Lent}
 use Rattle.unifier.specs.Writing.{Roomy}
 use Rattle.resolve.specs.Applying.{Solving, Store}
-use Rattle.resolve.specs.Picking.{Bench}
+use Rattle.picking.specs.Picking.{Bench}
 use Rattle.words.specs.WordLaws.{each-take, each-drop}
 use Rattle.resolve.proofs.Nexts.{drop-take}
 

@@ -1,11 +1,11 @@
 -- The problem that is built, and the next goal that comes of it.
-use Prim.Native.Nat.{ℕ, suc, _+_, _%_, _-_, _≤_, _<_}
+use Prim.Native.Nat.{ℕ, suc, _+_, _-_, _≤_, _<_}
 use native.Mathlib.Omega.{arith}
 use mathlib.Core.Path.{_≡_, refl, sym as inv, ap, ap₂, _∙_, subst}
 use mathlib.Core.Bool.{Bool, true, false, _&&_}
 use mathlib.Core.List.{List, [], _∷_, _++_, map, map-append}
-use lib.ListN.{length, getD, take, drop, length-append, length-map, length-drop}
-use lib.Seq.{drop-at, drop-drop, drop-append-le, take-add, length-take-le, getD-take}
+use lib.ListN.{length, take, drop, length-append, length-map}
+use lib.Seq.{drop-at, take-add, length-take-le, getD-take}
 use lib.Dec.{leb}
 use borrow.Author.Tests.{le-leb, lt-leb}
 use Rattle.terms.specs.Node.{var, sym, Expr}
@@ -16,16 +16,18 @@ use Rattle.terms.specs.NumberLaws.{number-all-length}
 use Rattle.search.specs.Next.{Clause, Goal, resolvent, Resolved}
 use Rattle.search.specs.NextLaws.{resolved-formulas, resolved-atoms}
 use Rattle.search.specs.Room.{nodes as size, fits}
-use Rattle.words.specs.Word.{kindOf, node, nodes, Fit, Fits}
+use Rattle.words.specs.Word.{node, nodes, Fit, Fits}
 use Rattle.words.specs.Flat.{flat, flat-append, flat-apply, flat-rename, flat-number, flat-size}
 use Rattle.words.specs.Held.{GoalIn, ClauseIn}
 use Rattle.words.specs.WordLaws.{each-append, each-take, each-drop, fits-more}
 use Rattle.words.specs.HeldLaws.{behind-is, first-length, formula-in, headed, head-length, head-in}
 use Rattle.numbering.specs.Naming.{Fitting, Numbering}
 use Rattle.unifier.specs.Solving.{Sides, Problem}
-use Rattle.resolve.specs.Applying.{moved, Paired, Built, Wrote, Solving, Stage, Applied}
-use Rattle.resolve.proofs.Appends.{built-paired, nodes-moved, fits-moved, drop-moved}
-use Rattle.resolve.proofs.Problems.{goal-name, clause-name, names-apart, no-meeting, sides, problem}
+use Rattle.picking.specs.Laying.{moved, Paired}
+use Rattle.resolve.specs.Applying.{Built, Wrote, Solving, Stage, Applied}
+use Rattle.picking.proofs.Appends.{nodes-moved, fits-moved}
+use Rattle.resolve.proofs.Builds.{built-paired, drop-moved}
+use Rattle.picking.proofs.Problems.{goal-name, clause-name, names-apart, no-meeting, sides, problem}
 
 number-length : (seen : List ℕ) (e : Expr) → length (number seen e) ≡ length e
 number-length seen [] = refl

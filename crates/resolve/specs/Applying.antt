@@ -1,35 +1,17 @@
 -- One clause applied to a goal, in words.
 use Prim.Native.Nat.{ℕ, _+_, _≤_, _<_}
 use mathlib.Core.Path.{_≡_}
-use mathlib.Core.Bool.{Bool, true, false}
-use mathlib.Core.List.{List, [], _∷_, _++_, map}
+use mathlib.Core.Bool.{true, false}
+use mathlib.Core.List.{List, _∷_, _++_, map}
 use lib.ListN.{length, take, drop}
-use lib.Dec.{eqb}
 use Rattle.terms.specs.Node.{Expr}
 use Rattle.terms.specs.Subst.{Subst, apply, Unifies, MostGeneral}
 use Rattle.search.specs.Next.{Clause, Goal, Meets, Resolved}
 use Rattle.search.specs.Room.{fits}
-use Rattle.words.specs.Word.{kindOf, nodes}
+use Rattle.words.specs.Word.{nodes}
 use Rattle.words.specs.Held.{GoalIn, ClauseIn}
 use Rattle.numbering.specs.Naming.{Fitting}
-
-abbrev pub moved-by : Bool → ℕ → ℕ → ℕ
-moved-by true s u = u + s
-moved-by false s u = u
-
--- a variable's word moved by s
-unfoldable pub moved : ℕ → ℕ → ℕ
-moved s u = moved-by (eqb (kindOf u) 1) s u
-
--- after the first `at` words of dst stand those of src, moved
-pub record Appended (dst : List ℕ) (at : ℕ) (src : List ℕ) (s : ℕ) (z : List ℕ) (r : ℕ) : Type 0 where
-  pub end : r ≡ at + length src
-  pub front : take r z ≡ take at dst ++ map (moved s) src
-
--- the formula, and behind it the head, moved
-pub record Paired (formula head z : List ℕ) (r : ℕ) : Type 0 where
-  pub end : r ≡ length formula + length head
-  pub front : take r z ≡ map (moved 0) formula ++ map (moved 4096) head
+use Rattle.picking.specs.Laying.{moved}
 
 -- the first m words of the goal, the clause moved, and the rest of the goal
 pub record Built (goal : List ℕ) (m : ℕ) (clause z : List ℕ) (r : ℕ) : Type 0 where

@@ -1,8 +1,5 @@
-use Prim.Native.Nat.{ℕ, zero, suc, _+_, _-_, _%_, _<_, _≤_}
+use Prim.Native.Nat.{_-_}
 use native.Mathlib.Omega.{arith}
-use mathlib.Core.Path.{_≡_, refl, sym, ap, _∙_, subst}
-use mathlib.Core.List.{List, [], _∷_, _++_, map}
-use lib.ListN.{length, getD, set, take, drop, length-set}
 use borrow.Rule.Slice.PartMut.{same-len-mid}
 use Rattle.resolve.proofs.Lending.{lent, returned}
 use borrow.Author.Needs.{needs}

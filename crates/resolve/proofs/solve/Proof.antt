@@ -1,9 +1,6 @@
-use Prim.Native.Nat.{ℕ, zero, suc, _+_, _-_, _%_, _<_, _≤_}
 use native.Mathlib.Omega.{arith}
-use mathlib.Core.Path.{_≡_, refl, sym, ap, _∙_, subst}
-use mathlib.Core.List.{List, [], _∷_, _++_, map}
-use lib.ListN.{length, getD, set, take, drop, length-set}
-use Rattle.resolve.proofs.Solves.{worded, missing, present}
+use Rattle.picking.proofs.Problems.{worded}
+use Rattle.resolve.proofs.Solves.{missing, present}
 use borrow.Author.Needs.{needs}
 use Rattle.resolve.proofs.solve.Statement.{statement}
 use Rattle.resolve.proofs.solve.Tie as tie

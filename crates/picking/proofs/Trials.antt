@@ -1,8 +1,8 @@
 -- A head's trial, argument by argument, in storage that is longer.
-use Prim.Native.Nat.{ℕ, zero, suc, _+_, _-_, _≤_, _<_}
+use Prim.Native.Nat.{ℕ, suc, _+_, _≤_, _<_}
 use native.Mathlib.Omega.{arith}
 use native.Mathlib.Decide.{decLt}
-use mathlib.Core.Path.{_≡_, refl, sym as inv, ap, ap₂, _∙_, subst}
+use mathlib.Core.Path.{_≡_, refl, sym as inv, ap, _∙_, subst}
 use mathlib.Core.Bool.{Bool, true, false}
 use mathlib.Core.List.{List, [], _∷_, _++_, map}
 use lib.ListN.{length, getD, take, drop, length-map, List·getD-append}
@@ -13,7 +13,7 @@ use Rattle.terms.specs.RowLaws.{row-long}
 use Rattle.terms.specs.Subst.{Subst, Unifies}
 use Rattle.terms.specs.Rename.{rename}
 use Rattle.search.specs.Next.{Clause, Meets}
-use Rattle.words.specs.Word.{kindOf, arityOf, Plain, Fits}
+use Rattle.words.specs.Word.{arityOf, Plain, Fits}
 use Rattle.words.specs.Held.{GoalIn, ClauseIn}
 use Rattle.words.specs.HeldLaws.{whole-length, first-length, headed, first-kind}
 use Rattle.unifier.specs.Words.{child}
@@ -22,11 +22,10 @@ use Rattle.unifier.specs.Starting.{Worded}
 use Rattle.unifier.specs.Solving.{Sides, Problem, Solved}
 use Rattle.unifier.specs.Trying.{Spare, Trial, Argued as Said}
 use Rattle.unifier.specs.TrialLaws.{next-child, trial-second, argument-in, bare-solved, clashes, refused-none, most-general}
-use Rattle.resolve.specs.Applying.{moved, Paired}
-use Rattle.resolve.specs.Picking.{Bench, Laid, Unified, Argued}
-use Rattle.resolve.proofs.Appends.{moved-plain}
-use Rattle.resolve.proofs.Solves.{worded}
-use Rattle.resolve.proofs.Problems.{goal-name, clause-name, names-apart, no-meeting, sides, problem, problem-fits, problem-short}
+use Rattle.picking.specs.Laying.{moved, Paired}
+use Rattle.picking.specs.Picking.{Bench, Laid, Unified, Argued}
+use Rattle.picking.proofs.Appends.{moved-plain}
+use Rattle.picking.proofs.Problems.{goal-name, clause-name, names-apart, no-meeting, sides, problem, problem-fits, problem-short, worded}
 
 -- Of two formulas in words, j arguments are unified.
 module _ {w e up pick rank first : List ℕ} {m c d j : ℕ} (u : Unified w e up pick rank first m c d j) where

@@ -3,22 +3,21 @@ use Prim.Native.Nat.{ℕ, zero, suc, _+_, _%_, _-_, _≤_, _<_}
 use native.Mathlib.Omega.{arith}
 use native.Mathlib.Decide.{ℕ-discrete}
 use mathlib.Core.Path.{_≡_, refl, sym as inv, ap, _∙_, subst}
-use mathlib.Core.Bool.{Bool, true, false}
-use mathlib.Core.List.{List, [], _∷_, _++_}
-use lib.ListN.{length, getD, take, drop, length-drop, length-map}
-use lib.Seq.{length-take-le, take-take, getD-take, getD-drop}
-use Rattle.terms.specs.Node.{predicate, var, sym, Expr}
-use Rattle.terms.specs.Row.{Row, Atom}
+use mathlib.Core.List.{List, [], _∷_}
+use lib.ListN.{length, getD, take, drop, length-drop}
+use lib.Seq.{take-take, getD-take, getD-drop}
+use Rattle.terms.specs.Node.{predicate, sym, Expr}
+use Rattle.terms.specs.Row.{Row}
 use Rattle.terms.specs.RowLaws.{row-long}
 use Rattle.terms.specs.Subst.{apply}
 use Rattle.terms.specs.Rename.{rename}
 use Rattle.search.specs.Next.{Clause, Book, Meets, First, None-meets}
-use Rattle.words.specs.Word.{kindOf, arityOf, node, nodes, Fits}
+use Rattle.words.specs.Word.{kindOf, arityOf, nodes}
 use Rattle.words.specs.Flat.{flat}
 use Rattle.words.specs.Held.{GoalIn, ClauseIn, Placed, no-clause, clause-at, BookIn}
 use Rattle.words.specs.WordLaws.{node-pred, same-word}
 use Rattle.words.specs.HeldLaws.{first-length, headed, head-in, first-kind}
-use Rattle.resolve.specs.Picking.{Picked, Bench}
+use Rattle.picking.specs.Picking.{Picked}
 
 pub formula-long : {w : List ℕ} {n : ℕ} {f : Expr} {g : List Expr} → GoalIn w n (f ∷ g) → 0 < length w
 formula-long {w} {n} {f} {g} p = omega (arith, first-length w n f g p (length f) refl, row-long (p .formulas .0))
@@ -93,23 +92,6 @@ picked-here f P from i a l h m =
           (λ j q. subst (λ c. Meets f c → ⊥) (inv (at-drop P from j)) (h (from + j) (omega arith) (omega arith))) (omega (arith, length-drop from P)) (subst (Meets f) (inv d) m));
       none = λ n. absurd (omega arith);
     }
-
-module _ {words end up pick left right rank first : List ℕ} (s : Bench words end up pick left right rank first) where
-  pub rebenched : (w e u p l r k x : List ℕ) → length w ≡ length words → length e ≡ length end → length u ≡ length up → length p ≡ length pick → length l ≡ length left → length r ≡ length right → length k ≡ length rank → length x ≡ length first
-      → Bench w e u p l r k x
-  rebenched w e u p l r k x a b c d g h i j = record {
-    wordsLength = a ∙ s .wordsLength;
-    endLength = b ∙ s .endLength;
-    upLength = c ∙ s .upLength;
-    pickLength = d ∙ s .pickLength;
-    leftLength = g ∙ s .leftLength;
-    rightLength = h ∙ s .rightLength;
-    rankLength = i ∙ s .rankLength;
-    firstLength = j ∙ s .firstLength;
-  }
-
-  pub reworded : (w : List ℕ) → length w ≡ length words → Bench w end up pick left right rank first
-  reworded w e = rebenched w end up pick left right rank first e refl refl refl refl refl refl refl
 
 -- the clause number i of a book in words
 module _ {book starts heads bodies : List ℕ} {n : ℕ} {P : Book} (s : BookIn book starts heads bodies n P) (i a b : ℕ) (l : i < n) (ea : a ≡ getD starts i 0) (eb : b ≡ getD heads i 0) where

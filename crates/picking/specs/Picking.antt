@@ -7,12 +7,12 @@ use lib.ListN.{length, getD, take, drop}
 use Rattle.terms.specs.Node.{Expr}
 use Rattle.terms.specs.Subst.{Subst, Unifies}
 use Rattle.terms.specs.Argument.{Clashes-at}
-use Rattle.search.specs.Next.{Clause, Book, First, None-meets}
+use Rattle.search.specs.Next.{Book, First, None-meets}
 use Rattle.words.specs.Held.{clause-at}
 use Rattle.unifier.specs.Words.{child}
 use Rattle.unifier.specs.Solving.{Sides, Problem, Solved}
 use Rattle.unifier.specs.Trying.{Trial}
-use Rattle.resolve.specs.Applying.{Paired}
+use Rattle.picking.specs.Laying.{Paired}
 
 -- storage for a trial
 pub record Bench (words end up pick left right rank first : List ℕ) : Type 0 where

@@ -1,5 +1,5 @@
 -- The problem of a formula and a head: the goal's variables keep their numbers, the clause's go past them.
-use Prim.Native.Nat.{ℕ, _+_, _≤_, _<_}
+use Prim.Native.Nat.{ℕ, _+_, _≤_}
 use native.Mathlib.Omega.{arith}
 use mathlib.Core.Path.{_≡_, refl, sym as inv, ap, ap₂, _∙_, subst}
 use mathlib.Core.Logic.{inl, inr}
@@ -19,9 +19,10 @@ use Rattle.words.specs.Flat.{flat}
 use Rattle.words.specs.Held.{GoalIn, ClauseIn}
 use Rattle.words.specs.WordLaws.{each-append, each-drop, fits-more, in-fits}
 use Rattle.words.specs.HeldLaws.{behind-is, headed, first-kind}
+use Rattle.unifier.specs.Starting.{Worded}
 use Rattle.unifier.specs.Solving.{Sides, Problem}
-use Rattle.resolve.specs.Applying.{moved, Paired}
-use Rattle.resolve.proofs.Appends.{nodes-moved, fits-moved}
+use Rattle.picking.specs.Laying.{moved, Paired}
+use Rattle.picking.proofs.Appends.{nodes-moved, fits-moved}
 
 abbrev pub goal-name : ℕ → ℕ
 goal-name v = v + 0
@@ -90,3 +91,7 @@ module _ (formula head : List ℕ) (k : ℕ) (f : Expr) (c : Clause) (p : GoalIn
 
   pub problem-short : r ≤ 4352
   problem-short = omega (arith, b .end, p .size, q .size)
+
+-- words as the unifier takes them
+pub worded : (k : ℕ) (l : List ℕ) → length l ≤ 4352 → Fits k l → Worded l k
+worded k l h p = record { small = h; valid = λ x q. p x q .valid; number = λ x q. p x q .below }

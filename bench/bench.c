@@ -1,0 +1,47 @@
+/* bench FILE..: runs each input, as the program `trace` reads it, for about half a second of processor time, and prints the file's name, the code, the steps of one
+   run and the nanoseconds that one takes. */
+#define _POSIX_C_SOURCE 199309L
+#include <stdio.h>
+#include <stdlib.h>
+#include <string.h>
+#include <time.h>
+
+#include "pitxargole.h"
+
+static uint8_t input[49163], area[PITXARGOLE_AREA];
+
+static double now(void) {
+    struct timespec t;
+    clock_gettime(CLOCK_PROCESS_CPUTIME_ID, &t);
+    return (double)t.tv_sec * 1e9 + (double)t.tv_nsec;
+}
+
+static uint32_t number(const uint8_t *at) {
+    return (uint32_t)at[0] << 24 | (uint32_t)at[1] << 16 | (uint32_t)at[2] << 8 | at[3];
+}
+
+static void measure(const char *name) {
+    FILE *file = fopen(name, "rb");
+    if (!file) {
+        perror(name);
+        exit(1);
+    }
+    size_t length = fread(input, 1, sizeof input, file);
+    fclose(file);
+    uint32_t budget = number(input), book = number(input + 4);
+    const uint8_t *query = input + 8 + book;
+    uint64_t answer = 0;
+    unsigned long runs = 0;
+    double start = now(), spent = 0;
+    while (spent < 5e8) {
+        answer = pitxargole_run(budget, input + 8, book, query, length - 8 - book, area, sizeof area);
+        runs++;
+        spent = now() - start;
+    }
+    printf("%s %u %u %.0f\n", name, pitxargole_code(answer), pitxargole_steps(answer), spent / (double)runs);
+}
+
+int main(int words, char **word) {
+    for (int i = 1; i < words; i++) measure(word[i]);
+    return 0;
+}
