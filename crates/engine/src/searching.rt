@@ -2,9 +2,9 @@
 // next goal.
 use crate::detector::Detector;
 use crate::detector::Verdict;
+use picking::extent;
 use resolve::Move;
 use resolve::advance;
-use picking::extent;
 ghost use Prim.Native.Nat.{ℕ, _+_, _≤_, _<_};
 ghost use mathlib.Core.Path.{_≡_};
 ghost use mathlib.Core.Bool.{Bool};
