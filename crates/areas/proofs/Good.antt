@@ -1,9 +1,9 @@
 -- A good goal and a good clause are held by their words.
 use Prim.Native.Nat.{ℕ, zero, suc, _+_, _≤_, _<_}
 use native.Mathlib.Omega.{arith}
-use mathlib.Core.Path.{_≡_, refl, sym as inv, ap, _∙_}
+use mathlib.Core.Path.{_≡_, refl, _∙_}
 use mathlib.Core.List.{List, [], _∷_}
-use lib.ListN.{length, getD, take}
+use lib.ListN.{length, take}
 use lib.Dec.{eqb, lit≤}
 use borrow.Author.Tests.{eqb-true, eqb-false}
 use Rattle.terms.specs.Node.{constant, compound, predicate, Symbol, var, sym, Expr}
@@ -11,19 +11,18 @@ use Rattle.terms.specs.Row.{Atom, atom, Atoms}
 use Rattle.terms.specs.Cases.{cases}
 use Rattle.search.specs.Next.{Clause, Goal}
 use Rattle.search.specs.Room.{nodes as size}
-use Rattle.words.specs.Word.{kindOf, Fit, Fits, nodes}
-use Rattle.words.specs.Flat as F
+use Rattle.words.specs.Word.{kindOf, Fit, Fits, nodes, packed, word, wordsOf, Narrow, AllNarrow}
 use Rattle.words.specs.Held.{GoalIn, ClauseIn}
+use Rattle.words.specs.Flat.{flat}
+use Rattle.words.specs.PackLaws.{packed-kind, packed-number, word-valid, nodes-words, words-length}
 use Rattle.records.specs.Reading.{nextUnused}
-use Rattle.records.specs.Format.{nodeRecord, flat, IsFormula, formula, AreFormulas, Below, GoodClause, GoodGoal}
-use Rattle.records.specs.Words.{packed, wordOf, nodeWords, Narrow, AllNarrow, goalWords}
-use Rattle.records.specs.WordLaws.{packed-kind, packed-number, word-is, nodes-words, words-length}
+use Rattle.records.specs.Format.{IsFormula, formula, AreFormulas, Below, GoodClause, GoodGoal}
+use Rattle.records.specs.Words.{goalWords}
 use Rattle.records.specs.Storage.{Written}
 use Rattle.records.proofs.Filling.{written-front}
 use Rattle.records.proofs.Numbering.{length-flat, Ordered, ordered, next-same, next-other}
 use Rattle.records.proofs.Premises.{formulas-row}
 use Rattle.records.proofs.Image.{formulas-narrow}
-use Rattle.areas.proofs.Same.{same-nodes, same-flat, word-valid}
 
 -- A variable is at most as high as there are nodes
 
@@ -37,24 +36,24 @@ ordered-below k u (sym s ∷ e) o h = ordered-below k u e o (omega arith)
 
 -- The words of nodes fit
 
-var-fit : (k v : ℕ) → v < 65536 → v < k → Fit k (wordOf (nodeRecord (var v)))
-unfolding wordOf
-var-fit k v n b = record { valid = word-valid (word-is (var v) n); below = λ e. omega (arith, packed-number 1 0 v n) }
+var-fit : (k v : ℕ) → v < 65536 → v < k → Fit k (word (var v))
+unfolding word
+var-fit k v n b = record { valid = word-valid (var v) n; below = λ e. omega (arith, packed-number 1 0 v n) }
 
 -- no variable
 plain : (j a n : ℕ) → a < 256 → n < 65536 → 1 < j → kindOf (packed j a n) ≡ 1 → ⊥
 plain j a n p q h e = omega (arith, packed-kind j a n p q)
 
-sym-plain : (s : Symbol) → Narrow (sym s) → kindOf (wordOf (nodeRecord (sym s))) ≡ 1 → ⊥
-unfolding wordOf
+sym-plain : (s : Symbol) → Narrow (sym s) → kindOf (word (sym s)) ≡ 1 → ⊥
+unfolding word
 sym-plain (constant c) n = plain 2 0 c (lit≤ tt) n (lit≤ tt)
 sym-plain (compound f a) n = plain 3 a f (n .1) (n .0) (lit≤ tt)
 sym-plain (predicate p a) n = plain 4 a p (n .1) (n .0) (lit≤ tt)
 
-sym-fit : (k : ℕ) (s : Symbol) → Narrow (sym s) → Fit k (wordOf (nodeRecord (sym s)))
-sym-fit k s n = record { valid = word-valid (word-is (sym s) n); below = λ e. absurd (sym-plain s n e) }
+sym-fit : (k : ℕ) (s : Symbol) → Narrow (sym s) → Fit k (word (sym s))
+sym-fit k s n = record { valid = (word-valid (sym s) n); below = λ e. absurd (sym-plain s n e) }
 
-words-fit : (k : ℕ) (e : Expr) → AllNarrow e → Below k e → Fits k (nodeWords e)
+words-fit : (k : ℕ) (e : Expr) → AllNarrow e → Below k e → Fits k (wordsOf e)
 words-fit k [] n b x h = absurd (omega arith)
 words-fit k (var v ∷ e) n b zero h = var-fit k v (n .0) (b .0)
 words-fit k (var v ∷ e) n b (suc x) h = words-fit k e (n .1) (b .1) x (omega arith)
@@ -70,8 +69,8 @@ formulas-atoms : (g : Goal) → AreFormulas g → Atoms g
 formulas-atoms [] p = tt
 formulas-atoms (f ∷ g) p = (formula-atom (p .0), formulas-atoms g (p .1))
 
-words-hold : (g : Goal) → AreFormulas g → nodes (goalWords g) ≡ F.flat g
-words-hold g p = same-nodes (goalWords g) ∙ nodes-words (flat g) (formulas-narrow g p) ∙ inv (same-flat g)
+words-hold : (g : Goal) → AreFormulas g → nodes (goalWords g) ≡ flat g
+words-hold g p = nodes-words (flat g) (formulas-narrow g p)
 
 words-size : (g : Goal) → length (goalWords g) ≡ size g
 words-size g = words-length (flat g) ∙ length-flat g

@@ -1,9 +1,9 @@
 // Between bytes and the engine's storage: a good book and a good query opened into words, and a goal's words put back as its image.
-use records::words::count_formulas;
-use records::words::load_book;
-use records::words::load_goal;
-use records::words::place_heads;
-use records::words::write_goal;
+use records::storage::count_formulas;
+use records::storage::load_book;
+use records::storage::load_goal;
+use records::storage::place_heads;
+use records::storage::write_goal;
 ghost use mathlib.Core.Path.{_≡_};
 ghost use Prim.Native.Nat.{_≤_};
 ghost use lib.ListN.{length, take};

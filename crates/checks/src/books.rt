@@ -1,5 +1,4 @@
 // Books.
-use crate::build;
 use crate::show;
 
 fn book(label: &[u8], bytes: &[u8]) {
@@ -9,14 +8,14 @@ fn book(label: &[u8], bytes: &[u8]) {
 // A book of three parts, of which the second stands so many times.
 fn parts(label: &[u8], first: &[u8], second: &[u8], times: usize, third: &[u8]) {
     let mut area = io::large_buffer();
-    let n = build::parts(&mut area, first, second, times, third);
+    let n = inputs::parts(&mut area, first, second, times, third);
     book(label, &area[..n]);
 }
 
 // A clause whose head has the variables below `count`.
 fn variables(label: &[u8], count: u8) {
     let mut area = io::large_buffer();
-    let n = build::variables(
+    let n = inputs::variables(
         &mut area,
         b"\x05\x00\x04\x00\x01\x01",
         count,

@@ -1,7 +1,6 @@
 // Checks good and damaged books and queries, with inputs for every code and at every limit of document 01, and prints
 // each answer: code, place, count. Then a book and queries go into words, and the goals back into bytes.
 mod books;
-mod build;
 mod queries;
 mod round;
 mod show;

@@ -16,8 +16,9 @@ use Rattle.search.specs.Room as Room
 use Rattle.search.specs.Room.{fits, fits-iff}
 use Rattle.search.specs.Run.{Closed, run, goal-at, Closes, code-20, code-21, code-22, code-23, code-24}
 use Rattle.search.specs.RunLaws.{run-runs, runs-goal}
+use Rattle.words.specs.Flat.{flat}
 use Rattle.records.specs.Reading.{bookVerdict, queryVerdict}
-use Rattle.records.specs.Format.{nodeRecord, encodeRecord, nodeRecords, encode, flat, encodeGoal, Bytes}
+use Rattle.records.specs.Format.{nodeRecord, encodeRecord, nodeRecords, encode, encodeGoal, Bytes}
 use Rattle.records.specs.Decode.{bookOf, goalOf}
 use Rattle.records.proofs.Codes.{Coded, book-coded, query-coded}
 use Rattle.records.proofs.Decoding.{goalOf-good}

@@ -9,9 +9,9 @@ use Rattle.search.specs.Run.{Closed, run}
 use Rattle.records.specs.Format.{encodeGoal}
 use Rattle.records.specs.Storage.{Written}
 use Rattle.engine.specs.declared.Answer.{Answer}
-use Rattle.engine.specs.declared.searching.Ended.{Ended}
+use Rattle.searching.specs.declared.Ended.{Ended}
 use Rattle.engine.specs.Outcome.{refusal, over, refused, ended, closing, runAnswer, runArea}
-use Rattle.engine.specs.Searching.{Ends}
+use Rattle.searching.specs.Searching.{Ends}
 
 -- the run that closes with c answers r, and makes the area `before` into `after`
 pub record Leaves (c : Closed) (before : List ℕ) (r : Answer) (after : List ℕ) : Type 0 where

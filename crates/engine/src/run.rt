@@ -2,11 +2,11 @@
 use crate::Answer;
 use crate::admit::Admitted;
 use crate::admit::admit;
-use crate::searching::Ended;
-use crate::searching::search;
 use areas::open_book;
 use areas::open_query;
 use areas::put_goal;
+use searching::Ended;
+use searching::search;
 ghost use mathlib.Core.Path.{_≡_};
 ghost use Prim.Native.Nat.{_≤_};
 ghost use lib.ListN.{length, take};
@@ -15,7 +15,7 @@ ghost use Rattle.words.specs.Held.{GoalIn, BookIn};
 ghost use Rattle.areas.specs.Rooms.{Rooms};
 ghost use Rattle.engine.specs.Outcome.{refused, closing, runAnswer, runArea};
 ghost use Rattle.engine.specs.Refusals.{Good};
-ghost use Rattle.engine.specs.Searching.{Ends};
+ghost use Rattle.searching.specs.Searching.{Ends};
 ghost use Rattle.engine.specs.Running.{Leaves, answered};
 
 // "Codes 1 to 19 refuse the input .. and give steps, span, bytes and every count 0."

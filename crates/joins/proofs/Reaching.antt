@@ -8,11 +8,11 @@ use lib.ListN.{length, getD, take, drop, length-map, take-append-drop}
 use lib.Seq.{take-suc, getD-drop, take-all, length-take-le}
 use Rattle.terms.specs.Node.{Expr}
 use Rattle.terms.specs.Row.{Row, row-end}
-use Rattle.words.specs.Word.{kindOf, arityOf, Valid, node, nodes}
+use Rattle.words.specs.Word.{places, kindOf, arityOf, Valid, node, nodes}
+use Rattle.words.specs.WordLaws.{node-places}
 use Rattle.unifier.specs.Solving.{Problem}
 use Rattle.unifier.specs.Trying.{Lent}
-use Rattle.unifier.specs.CatLaws.{places, row-node}
-use Rattle.unifier.specs.ValueLaws.{node-ar}
+use Rattle.unifier.specs.CatLaws.{row-node}
 use Rattle.joins.specs.Guards.{All-fit, Reached, Guarded}
 
 pub never : {A : Type 0} → _≡_ {A = Bool} false true → A
@@ -37,7 +37,7 @@ module _ (w : List ℕ) (from p need : ℕ) where
 
   pub half-more : from ≤ p → p < length w → 0 < need → Valid (getD w p 0) → Half w from p need → Half w from (p + 1) (need - 1 + arityOf (getD w p 0))
   half-more l h pos v half r row =
-      let c : need - 1 + arityOf (getD w p 0) ≡ places (node (getD w p 0)) + (need - 1) = omega (arith, node-ar (getD w p 0) v) in
+      let c : need - 1 + arityOf (getD w p 0) ≡ places (node (getD w p 0)) + (need - 1) = omega (arith, node-places (getD w p 0) v) in
       let d : suc (need - 1) ≡ need = omega arith in
       let longer : Row need (node (getD w p 0) ∷ r) = rw d at (row-node (node (getD w p 0)) (rw c at row)) in
       rw (one-more l h, append-assoc (nodes (take (p - from) (drop from w))) (node (getD w p 0) ∷ []) r) (half (node (getD w p 0) ∷ r) longer)

@@ -15,7 +15,8 @@ use Rattle.search.specs.Next.{Clause, Book, Meets, First, None-meets}
 use Rattle.words.specs.Word.{kindOf, arityOf, nodes}
 use Rattle.words.specs.Flat.{flat}
 use Rattle.words.specs.Held.{GoalIn, ClauseIn, Placed, no-clause, clause-at, BookIn}
-use Rattle.words.specs.WordLaws.{node-pred, same-word}
+use Rattle.words.specs.WordLaws.{node-pred}
+use Rattle.words.specs.PackLaws.{same-word}
 use Rattle.words.specs.HeldLaws.{first-length, headed, head-in, first-kind}
 use Rattle.picking.specs.Picking.{Picked}
 

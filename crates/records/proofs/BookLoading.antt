@@ -10,12 +10,14 @@ use native.Mathlib.Decide.{decLt}
 use Rattle.terms.specs.Node.{constant, compound, predicate, Node, var, sym, Expr}
 use Rattle.search.specs.Next as Next
 use Rattle.search.specs.Room.{nodes}
+use Rattle.words.specs.Flat.{flat}
+use Rattle.words.specs.Word.{wordsOf}
 use Rattle.records.specs.declared.record.Record.{Record}
 use Rattle.records.specs.declared.record.Record.the-variants.{Clause, End}
 use Rattle.records.specs.Reading.{bodyLength, recordAt, bookVerdict}
-use Rattle.records.specs.Format.{encodeRecord, encode, nodeRecord, nodeRecords, flat, bookRecords, encodeBook, Bytes}
+use Rattle.records.specs.Format.{encodeRecord, encode, nodeRecord, nodeRecords, bookRecords, encodeBook, Bytes}
 use Rattle.records.specs.Decode.{bookOf}
-use Rattle.records.specs.Words.{wordOf, nodeWords, goalWords, bookWords, bookStarts, bookBodies}
+use Rattle.records.specs.Words.{wordOf, record-word, goalWords, bookWords, bookStarts, bookBodies}
 use Rattle.records.specs.Storage.{Loaded}
 use Rattle.records.proofs.Items.{recordKind}
 use Rattle.records.proofs.Numbering.{length-flat}
@@ -46,7 +48,7 @@ node-long (sym (constant c)) = lit≤ tt
 node-long (sym (compound f n)) = lit≤ tt
 node-long (sym (predicate p n)) = lit≤ tt
 
-nodes-long : (e : Expr) (rs : List Record) → 3 * length (nodeWords e) + length (encode rs) ≤ length (encode (nodeRecords e ++ rs))
+nodes-long : (e : Expr) (rs : List Record) → 3 * length (wordsOf e) + length (encode rs) ≤ length (encode (nodeRecords e ++ rs))
 nodes-long [] rs = omega arith
 nodes-long (x ∷ e) rs = omega (arith, length-append (encodeRecord (nodeRecord x)) (encode (nodeRecords e ++ rs)), node-long x, nodes-long e rs)
 
@@ -60,10 +62,10 @@ words-few (c ∷ b) =
 -- of the book's clauses, those of b are still to come, after the nodes of e, which are what is left of the clause before them
 record Ahead (book before words before′ starts before″ bodies : List ℕ) (n k at : ℕ) (e : Expr) (b : Next.Book) : Type 0 where
   image : drop at book ≡ encode (nodeRecords e ++ bookRecords b)
-  nodes : Filling (bookWords (bookOf book)) before words n (nodeWords e ++ bookWords b)
+  nodes : Filling (bookWords (bookOf book)) before words n (wordsOf e ++ bookWords b)
   places : Filling (bookStarts 0 (bookOf book)) before′ starts k (bookStarts (n + length e) b)
   formulas : Filling (bookBodies (bookOf book)) before″ bodies k (bookBodies b)
-  few : n + length (nodeWords e ++ bookWords b) ≤ 10922
+  few : n + length (wordsOf e ++ bookWords b) ≤ 10922
   some : k + length b ≤ 512
 
 -- a record is there: a node, a clause or the end
@@ -147,7 +149,7 @@ module _ {book before words before′ starts before″ bodies : List ℕ} {n k a
             room = filling-room (a .nodes);
             next = ahead-loading {e = e} {b = b} record {
               image = f .later;
-              nodes = rw (f .item) (filling-next (a .nodes));
+              nodes = rw (f .item, record-word x) (filling-next (a .nodes));
               places = rw more at (a .places);
               formulas = a .formulas;
               few = omega arith;

@@ -8,15 +8,16 @@ use mathlib.Core.Bool.{true, false}
 use mathlib.Core.List.{List, [], _∷_, _++_, append-nil}
 use lib.ListN.{length, length-append}
 use Rattle.terms.specs.Node.{Node, Expr}
+use Rattle.search.specs.Next as Next
+use Rattle.search.specs.Room.{nodes}
+use Rattle.words.specs.Flat.{flat}
 use Rattle.records.specs.declared.state.State.{State}
 use Rattle.records.specs.declared.state.Form.{Form}
 use Rattle.records.specs.declared.state.Form.the-variants.{Book, Query}
 use Rattle.records.specs.declared.record.Record.{Record}
 use Rattle.records.specs.declared.record.Record.the-variants.{Variable, Constant, Compound, Formula, Clause, Goal, End}
 use Rattle.records.specs.Reading.{nodeLimit, variableLimit, countOf, opens, allowed, inRange, inSize, inOrder, afterNode, after, whole, start}
-use Rattle.search.specs.Next as Next
-use Rattle.search.specs.Room.{nodes}
-use Rattle.records.specs.Format.{nodeRecords, Terms, terms-none, terms-var, terms-constant, terms-compound, IsFormula, formula, AreFormulas, flat, Below, bookRecords, GoodClauses, goalRecords, GoodGoal}
+use Rattle.records.specs.Format.{nodeRecords, Terms, terms-none, terms-var, terms-constant, terms-compound, IsFormula, formula, AreFormulas, Below, bookRecords, GoodClauses, goalRecords, GoodGoal}
 use Rattle.records.proofs.Items.{Run, stop, step, Narrow, recordKind}
 use Rattle.records.proofs.Numbering.{length-flat, Ordered, ordered}
 

@@ -9,9 +9,11 @@ use lib.Seq.{take-at}
 use Rattle.terms.specs.RowLaws.{row-long}
 use Rattle.search.specs.Next as Next
 use Rattle.search.specs.Room.{nodes}
-use Rattle.records.specs.Format.{flat, GoodClause, GoodClauses, GoodBook}
-use Rattle.records.specs.Words.{nodeWords, goalWords, bookWords, bookStarts, bookHeads, bookBodies}
-use Rattle.records.specs.WordLaws.{words-length, words-append}
+use Rattle.words.specs.Flat.{flat}
+use Rattle.words.specs.Word.{wordsOf}
+use Rattle.words.specs.PackLaws.{words-length, words-append}
+use Rattle.records.specs.Format.{GoodClause, GoodClauses, GoodBook}
+use Rattle.records.specs.Words.{goalWords, bookWords, bookStarts, bookHeads, bookBodies}
 use Rattle.records.specs.Storage.{Loaded, Stored, FormulaAt, ClauseAt}
 use Rattle.records.proofs.Numbering.{length-flat}
 use Rattle.records.proofs.Premises.{formula-row}
@@ -61,8 +63,8 @@ first-within c words n later good e =
     let g = c .head ∷ c .body in
     omega (arith, row-long (formula-row (good .formulas .0)), ap length e, length-drop n words, length-append (goalWords g) later, goal-long g)
 
-from-head : (c : Next.Clause) (words : List ℕ) (n : ℕ) (later : List ℕ) → drop n words ≡ goalWords (c .head ∷ c .body) ++ later → drop n words ≡ nodeWords (c .head) ++ (goalWords (c .body) ++ later)
-from-head c words n later e = e ∙ ap (λ l. l ++ later) (words-append (c .head) (flat (c .body))) ∙ append-assoc (nodeWords (c .head)) (goalWords (c .body)) later
+from-head : (c : Next.Clause) (words : List ℕ) (n : ℕ) (later : List ℕ) → drop n words ≡ goalWords (c .head ∷ c .body) ++ later → drop n words ≡ wordsOf (c .head) ++ (goalWords (c .body) ++ later)
+from-head c words n later e = e ∙ ap (λ l. l ++ later) (words-append (c .head) (flat (c .body))) ∙ append-assoc (wordsOf (c .head)) (goalWords (c .body)) later
 
 head-at : (c : Next.Clause) (words : List ℕ) (n : ℕ) (later : List ℕ) → GoodClause c → drop n words ≡ goalWords (c .head ∷ c .body) ++ later → FormulaAt words n (c .head)
 head-at c words n later good e =
@@ -99,15 +101,15 @@ module _ {c : Next.Clause} {words : List ℕ} {s e h m : ℕ} (a : ClauseAt c wo
   pub clause-words : take (e - s) (drop s words) ≡ goalWords (c .head ∷ c .body)
   clause-words = ap (take (e - s)) (a .here) ∙ take-at (goalWords (c .head ∷ c .body)) (a .later) (e - s) (omega (arith, goal-long (c .head ∷ c .body), a .end))
 
-  by-head : drop s words ≡ nodeWords (c .head) ++ (goalWords (c .body) ++ a .later)
+  by-head : drop s words ≡ wordsOf (c .head) ++ (goalWords (c .body) ++ a .later)
   by-head = from-head c words s (a .later) (a .here)
 
-  pub head-words : take (h - s) (drop s words) ≡ nodeWords (c .head)
-  head-words = ap (take (h - s)) by-head ∙ take-at (nodeWords (c .head)) (goalWords (c .body) ++ a .later) (h - s) (omega (arith, words-length (c .head), a .head-end))
+  pub head-words : take (h - s) (drop s words) ≡ wordsOf (c .head)
+  head-words = ap (take (h - s)) by-head ∙ take-at (wordsOf (c .head)) (goalWords (c .body) ++ a .later) (h - s) (omega (arith, words-length (c .head), a .head-end))
 
   pub body-words : take (e - h) (drop h words) ≡ goalWords (c .body)
   body-words =
-      let p = drop-past words s (nodeWords (c .head)) (goalWords (c .body) ++ a .later) by-head {end = h} (omega (arith, words-length (c .head), a .head-end)) in
+      let p = drop-past words s (wordsOf (c .head)) (goalWords (c .body) ++ a .later) by-head {end = h} (omega (arith, words-length (c .head), a .head-end)) in
       ap (take (e - h)) p ∙ take-at (goalWords (c .body)) (a .later) (e - h) (omega (arith, goal-long (c .body), a .end, a .head-end))
 
   pub head-formula : GoodClause c → FormulaAt words s (c .head)

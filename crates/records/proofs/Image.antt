@@ -9,12 +9,15 @@ use lib.ListN.{length, take, length-append}
 use lib.Dec.{ltb, lit≤}
 use Rattle.terms.specs.Node.{constant, compound, predicate, Node, var, sym, Expr}
 use Rattle.terms.specs.Row.{Formulas}
+use Rattle.terms.specs.When.{_⇒_∣_}
 use Rattle.search.specs.Next as Next
-use Rattle.records.specs.Reading.{_⇒_∣_, queryVerdict}
+use Rattle.words.specs.Flat.{flat}
+use Rattle.words.specs.Word.{packed, word, wordsOf, Narrow, AllNarrow, Valids, nodes as nodesOf}
+use Rattle.words.specs.PackLaws.{packed-kind, packed-arity, words-length, words-nodes, nodes-narrow, narrow-append}
+use Rattle.records.specs.Reading.{queryVerdict}
 use Rattle.records.specs.Decode.{goalOf}
-use Rattle.records.specs.Format.{encodeRecord, encode, nodeRecord, nodeRecords, flat, encodeGoal, Terms, terms-none, terms-var, terms-constant, terms-compound, IsFormula, formula, AreFormulas, GoodGoal, Bytes}
-use Rattle.records.specs.Words.{packed, wordOf, nodeWords, Narrow, AllNarrow, goalWords, AllWords, wordNodes, firstWithArity, wordBytes, wordsBytes}
-use Rattle.records.specs.WordLaws.{packed-kind, packed-arity, words-length, words-nodes, nodes-narrow, narrow-append}
+use Rattle.records.specs.Format.{encodeRecord, encode, nodeRecord, nodeRecords, encodeGoal, Terms, terms-none, terms-var, terms-constant, terms-compound, IsFormula, formula, AreFormulas, GoodGoal, Bytes}
+use Rattle.records.specs.Words.{goalWords, firstWithArity, wordBytes, wordsBytes}
 use Rattle.records.specs.Storage.{Written, Writable}
 use Rattle.records.proofs.Numbering.{length-flat}
 use Rattle.records.proofs.Premises.{formulas-row}
@@ -42,14 +45,14 @@ bytes-four k v a h n m =
     let s = packed-arity k a v m n in
     simp (le-ltb w firstWithArity (omega arith)) (λ i. p i ∷ q i ∷ r i ∷ s i ∷ [])
 
-word-bytes : (x : Node) → Narrow x → wordBytes (wordOf (nodeRecord x)) ≡ encodeRecord (nodeRecord x)
-unfolding wordOf
+word-bytes : (x : Node) → Narrow x → wordBytes (word x) ≡ encodeRecord (nodeRecord x)
+unfolding word
 word-bytes (var v) h = bytes-three 1 v (lit≤ tt) h
 word-bytes (sym (constant c)) h = bytes-three 2 c (lit≤ tt) h
 word-bytes (sym (compound f n)) h = bytes-four 3 f n (lit≤ tt) (h .0) (h .1)
 word-bytes (sym (predicate p n)) h = bytes-four 4 p n (lit≤ tt) (h .0) (h .1)
 
-nodes-bytes : (e : Expr) → AllNarrow e → wordsBytes (nodeWords e) ≡ encode (nodeRecords e)
+nodes-bytes : (e : Expr) → AllNarrow e → wordsBytes (wordsOf e) ≡ encode (nodeRecords e)
 nodes-bytes [] h = refl
 nodes-bytes (x ∷ e) h = ap₂ _++_ (word-bytes x (h .0)) (nodes-bytes e (h .1))
 
@@ -88,14 +91,14 @@ module _ {words : List ℕ} {formulas : ℕ} {g : Next.Goal} (w : Writable words
 
 -- What can be written: what an engine has made of words that are nodes', and a good goal.
 
-pub made-writable : (w : List ℕ) (g : Next.Goal) → AllWords w → wordNodes w ≡ flat g → Formulas g → length g ≤ 512 → length w ≤ 4096 → Writable w (length g) g
+pub made-writable : (w : List ℕ) (g : Next.Goal) → Valids w → nodesOf w ≡ flat g → Formulas g → length g ≤ 512 → length w ≤ 4096 → Writable w (length g) g
 made-writable w g a e r few size = record {
   rows = r;
   narrow = rw e at (nodes-narrow w);
-  is = ap nodeWords (inv e) ∙ words-nodes w a;
+  is = ap wordsOf (inv e) ∙ words-nodes w a;
   count = refl;
   few = few;
-  size = omega (arith, length-flat g, ap length (inv e), words-length (wordNodes w), ap length (words-nodes w a));
+  size = omega (arith, length-flat g, ap length (inv e), words-length (nodesOf w), ap length (words-nodes w a));
 }
 
 terms-narrow : {n : ℕ} {e : Expr} → Terms n e → AllNarrow e

@@ -4,7 +4,6 @@
 --   Premises   goodness gives what the theorems of the crate `search` ask for
 --   Longest    a good query has 16,386 bytes at most
 --   Image      the bytes of a goal's words are its image, and have room; which goals can be written
---   Bounds     each word of an expression is a node's, and its variables are below a bound
 --   Clauses    each clause of a stored book is found by its number
 -- That no two outcomes satisfy a contract is in specs/Once.
 
@@ -31,7 +30,6 @@ pub mod Filling
 pub mod Loading
 pub mod BookLoading
 pub mod Image
-pub mod Bounds
 pub mod Clauses
 pub mod Ending
 pub mod Placing

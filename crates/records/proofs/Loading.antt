@@ -5,13 +5,15 @@ use mathlib.Core.Path.{_≡_, refl, sym as inv, ap}
 use mathlib.Core.List.{List, [], _∷_}
 use lib.ListN.{length, getD, drop, set, length-drop}
 use Rattle.terms.specs.Node.{Expr}
+use Rattle.words.specs.Flat.{flat}
+use Rattle.words.specs.Word.{wordsOf}
+use Rattle.words.specs.PackLaws.{words-length}
 use Rattle.records.specs.declared.record.Record.{Record}
 use Rattle.records.specs.declared.record.Record.the-variants.{Goal}
 use Rattle.records.specs.Reading.{bodyLength, numberAt, recordAt, queryVerdict}
-use Rattle.records.specs.Format.{encode, nodeRecord, nodeRecords, flat, Bytes}
+use Rattle.records.specs.Format.{encode, nodeRecord, nodeRecords, Bytes}
 use Rattle.records.specs.Decode.{goalOf}
-use Rattle.records.specs.Words.{wordOf, nodeWords, goalWords}
-use Rattle.records.specs.WordLaws.{words-length}
+use Rattle.records.specs.Words.{wordOf, record-word, goalWords}
 use Rattle.records.specs.Storage.{Written}
 use Rattle.records.proofs.Items.{recordKind}
 use Rattle.records.proofs.Encoded.{encoded}
@@ -37,7 +39,7 @@ front s at r rs e =
 pub record GoalLoading (query before words : List ℕ) (n at : ℕ) : Type 0 where
   rest : Expr
   image : drop at query ≡ encode (nodeRecords rest)
-  fill : Filling (goalWords (goalOf query)) before words n (nodeWords rest)
+  fill : Filling (goalWords (goalOf query)) before words n (wordsOf rest)
   pub few : n + length rest ≤ 4096
   pub kept : length words ≡ length before
 
@@ -73,7 +75,7 @@ module _ {query before words : List ℕ} {n at : ℕ} (g : GoalLoading query bef
   goal-node : at < length query → GoalNode
   goal-node h = go (g .rest) (g .image) (g .fill) (g .few)
     where
-      go : (e : Expr) → drop at query ≡ encode (nodeRecords e) → Filling (goalWords (goalOf query)) before words n (nodeWords e) → n + length e ≤ 4096 → GoalNode
+      go : (e : Expr) → drop at query ≡ encode (nodeRecords e) → Filling (goalWords (goalOf query)) before words n (wordsOf e) → n + length e ≤ 4096 → GoalNode
       go [] i f few = absurd (omega (arith, length-drop at query, ap length i))
       go (x ∷ e) i f few =
           let b = front query at (nodeRecord x) (nodeRecords e) i in
@@ -81,7 +83,7 @@ module _ {query before words : List ℕ} {n at : ℕ} (g : GoalLoading query bef
           record {
             body = b .body;
             room = filling-room f;
-            next = record { rest = e; image = b .later; fill = rw (b .item) m; few = omega arith; kept = rw (b .item) (filling-length m) };
+            next = record { rest = e; image = b .later; fill = rw (b .item, record-word x) m; few = omega arith; kept = rw (b .item, record-word x) (filling-length m) };
           }
 
   pub goal-body : at < length query → at + bodyLength (getD query at 0) < length query
@@ -97,7 +99,7 @@ module _ {query before words : List ℕ} {n at : ℕ} (g : GoalLoading query bef
   pub goal-end : length query ≤ at → Written (goalWords (goalOf query)) before words n
   goal-end h = go (g .rest) (g .image) (g .fill)
     where
-      go : (e : Expr) → drop at query ≡ encode (nodeRecords e) → Filling (goalWords (goalOf query)) before words n (nodeWords e) → Written (goalWords (goalOf query)) before words n
+      go : (e : Expr) → drop at query ≡ encode (nodeRecords e) → Filling (goalWords (goalOf query)) before words n (wordsOf e) → Written (goalWords (goalOf query)) before words n
       go [] i f = filling-done f
       go (x ∷ e) i f = absurd (omega (arith, front query at (nodeRecord x) (nodeRecords e) i .here))
 

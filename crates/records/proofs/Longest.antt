@@ -9,7 +9,8 @@ use lib.ListN.{length, length-append}
 use Rattle.terms.specs.Node.{Expr}
 use Rattle.search.specs.Next as Next
 use Rattle.search.specs.Room.{nodes}
-use Rattle.records.specs.Format.{encodeRecord, encode, nodeRecord, nodeRecords, flat, encodeGoal, Terms, terms-none, terms-var, terms-constant, terms-compound, IsFormula, formula, AreFormulas, GoodGoal}
+use Rattle.words.specs.Flat.{flat}
+use Rattle.records.specs.Format.{encodeRecord, encode, nodeRecord, nodeRecords, encodeGoal, Terms, terms-none, terms-var, terms-constant, terms-compound, IsFormula, formula, AreFormulas, GoodGoal}
 use Rattle.records.proofs.Numbering.{length-flat}
 
 abbrev bytes : Expr → ℕ

@@ -8,17 +8,17 @@ use mathlib.Core.Logic.{_↔_}
 use mathlib.Core.List.{List, [], _∷_}
 use lib.ListN.{length, length-append}
 use lib.Dec.{ltb, lit≤}
-use Rattle.terms.specs.Node.{constant, compound, predicate, Node, var, Expr}
-use Rattle.terms.specs.Node.{sym as symbol}
+use Rattle.terms.specs.Node.{constant, compound, predicate, Node, var, Expr, sym as symbol}
+use Rattle.search.specs.Next as Next
+use Rattle.search.specs.Room.{nodes}
+use Rattle.words.specs.Flat.{flat}
 use Rattle.records.specs.declared.Check.{Check}
 use Rattle.records.specs.declared.state.Form.{Form}
 use Rattle.records.specs.declared.state.Form.the-variants.{Book, Query}
 use Rattle.records.specs.declared.record.Record.{Record}
 use Rattle.records.specs.declared.judging.Fault.the-variants.{Size}
 use Rattle.records.specs.Reading.{byteLimit, walk, start, verdict, bookVerdict, queryVerdict}
-use Rattle.search.specs.Next as Next
-use Rattle.search.specs.Room.{nodes}
-use Rattle.records.specs.Format.{encodeRecord, encode, nodeRecord, nodeRecords, bookRecords, goalRecords, flat, GoodBook, encodeBook, GoodGoal, encodeGoal, Bytes}
+use Rattle.records.specs.Format.{encodeRecord, encode, nodeRecord, nodeRecords, bookRecords, goalRecords, GoodBook, encodeBook, GoodGoal, encodeGoal, Bytes}
 use Rattle.records.proofs.Items.{Read, read, refused-code}
 use Rattle.records.proofs.Encoded.{walk-back}
 use Rattle.records.proofs.Build.{Ends, clauses-run, goal-run}

@@ -14,8 +14,8 @@ use Rattle.terms.specs.Number.{place, within, grow, seen-after, number, number-
 use Rattle.terms.specs.NumberLaws.{number-append}
 use Rattle.search.specs.Next.{Goal}
 use Rattle.search.specs.Room.{nodes}
+use Rattle.words.specs.Flat.{flat}
 use Rattle.records.specs.Reading.{nextUnused}
-use Rattle.records.specs.Format.{flat}
 
 -- A goal's formulas are numbered as one expression is.
 

@@ -8,14 +8,15 @@ use mathlib.Core.Bool.{true, false}
 use mathlib.Core.List.{List, [], _∷_, _++_, append-nil}
 use lib.ListN.{length}
 use Rattle.terms.specs.Node.{Expr}
+use Rattle.search.specs.Next as Next
+use Rattle.words.specs.Flat.{flat}
 use Rattle.records.specs.declared.state.State.{State}
 use Rattle.records.specs.declared.state.Form.{Form}
 use Rattle.records.specs.declared.state.Form.the-variants.{Book, Query}
 use Rattle.records.specs.declared.record.Record.{Record}
 use Rattle.records.specs.declared.record.Record.the-variants.{Variable, Constant, Compound, Formula, Clause, Goal, End}
 use Rattle.records.specs.Reading.{inRange, inSize, after, whole}
-use Rattle.search.specs.Next as Next
-use Rattle.records.specs.Format.{nodeRecords, Terms, terms-none, terms-var, terms-constant, terms-compound, AreFormulas, flat, Below, GoodClause, clauseRecords}
+use Rattle.records.specs.Format.{nodeRecords, Terms, terms-none, terms-var, terms-constant, terms-compound, AreFormulas, Below, GoodClause, clauseRecords}
 use Rattle.records.proofs.Tests.{zero-one}
 use Rattle.records.proofs.Taken.{Taken}
 use Rattle.records.proofs.Items.{Run, stop, step, Narrow, recordKind, Allowed, as-term, as-formula, as-clause, as-end, as-goal, allowed-is}

@@ -7,6 +7,7 @@ use mathlib.Core.Bool.{Bool, true, false, not}
 use mathlib.Core.List.{List}
 use lib.ListN.{length, getD}
 use lib.Dec.{eqb, leb, lit≤}
+use Rattle.terms.specs.When.{_⇒_∣_}
 use Rattle.records.specs.declared.state.State.{State}
 use Rattle.records.specs.declared.state.Form.{Form}
 use Rattle.records.specs.declared.state.Form.the-variants.{Book, Query}
@@ -16,7 +17,7 @@ use Rattle.records.specs.declared.judging.Fault.{Fault}
 use Rattle.records.specs.declared.judging.Fault.the-variants.{Kind, Cut, Range, Size, Number}
 use Rattle.records.specs.declared.judging.Judged.{Judged}
 use Rattle.records.specs.declared.judging.Judged.the-variants.{Next, Bad}
-use Rattle.records.specs.Reading.{_⇒_∣_, byteLimit, codeBase, faultNumber, allowed, bodyLength, recordAt, inRange, inSize, inOrder, nextUnused, after, judgeRecord, judge, Small}
+use Rattle.records.specs.Reading.{byteLimit, codeBase, faultNumber, allowed, bodyLength, recordAt, inRange, inSize, inOrder, nextUnused, after, judgeRecord, judge, Small}
 use Rattle.records.proofs.Tests.{zero-one, and-both}
 
 pub base-small : (form : Form) → codeBase form ≤ 10

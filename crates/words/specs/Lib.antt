@@ -4,3 +4,4 @@ pub mod Flat
 pub mod Held
 pub mod WordLaws
 pub mod HeldLaws
+pub mod PackLaws
