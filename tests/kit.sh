@@ -8,3 +8,9 @@ on_kit() {
     else set -- "$tools/lib/ld-linux-x86-64.so.2" --library-path "$tools/lib" "$@"; fi
     "$@"
 }
+
+# archive: target/staticlib/libengine.a, made anew where a crate has changed since.
+archive() {
+    local built=target/staticlib/libengine.a
+    [ -f $built ] && [ -z "$(find crates crates.txt -newer $built -print -quit)" ] || rt staticlib engine >target/archive.log 2>&1 || { cat target/archive.log; return 1; }
+}

@@ -1,0 +1,118 @@
+/* cost SHAPE NODES: one step, from a goal of so many nodes to another of as many, at which the search is stuck. */
+#include <stdlib.h>
+#include <string.h>
+
+#include "pitxargole.h"
+
+/* What the engine clears and copies counts by words too, and not as the C library's own tricks have it. */
+void *memset(void *to, int byte, size_t length) {
+    volatile uint32_t *word = to;
+    for (size_t i = 0; i < length / 4; i++) word[i] = (uint8_t)byte * 0x1010101u;
+    volatile uint8_t *last = to;
+    for (size_t i = length / 4 * 4; i < length; i++) last[i] = (uint8_t)byte;
+    return to;
+}
+
+void *memcpy(void *restrict to, const void *restrict from, size_t length) {
+    volatile uint32_t *word = to;
+    const volatile uint32_t *source = from;
+    for (size_t i = 0; i < length / 4; i++) word[i] = source[i];
+    volatile uint8_t *last = to;
+    const volatile uint8_t *rest = from;
+    for (size_t i = length / 4 * 4; i < length; i++) last[i] = rest[i];
+    return to;
+}
+
+static uint8_t book[128], query[PITXARGOLE_AREA], area[PITXARGOLE_AREA];
+static size_t book_length, query_length;
+
+/* The records of document 01. */
+static void record(uint8_t kind, unsigned number, int arity) {
+    query[query_length++] = kind;
+    query[query_length++] = (uint8_t)(number >> 8);
+    query[query_length++] = (uint8_t)number;
+    if (arity >= 0) query[query_length++] = (uint8_t)arity;
+}
+
+static void variable(unsigned number) { record(1, number, -1); }
+static void constant(unsigned number) { record(2, number, -1); }
+static void compound(unsigned number, int arity) { record(3, number, arity); }
+static void formula(unsigned number, int arity) { record(4, number, arity); }
+static void goal(unsigned formulas) { record(6, formulas, -1); }
+
+/* p(X,Y,..) :- q(X,Y,..), or the same with one variable. */
+static void rule(int arity, int same) {
+    book[0] = 5;
+    book[1] = 1;
+    for (unsigned side = 0; side < 2; side++) {
+        formula(1 + side, arity);
+        for (int i = 0; i < arity; i++) variable(same ? 0 : (unsigned)i);
+    }
+    book_length = 2 + query_length;
+    memcpy(book + 2, query, query_length);
+    book[book_length++] = 7;
+    query_length = 0;
+}
+
+/* p(f(f(..a))) by p(X) :- q(X) */
+static void deep(unsigned nodes) {
+    rule(1, 0);
+    goal(1);
+    formula(1, 1);
+    for (unsigned i = 2; i < nodes; i++) compound(1, 1);
+    constant(1);
+}
+
+/* p(a,a,a,a,a,a,V), p(a,a,a,a,a,a,W), .. by p(S,..,Y) :- q(S,..,Y) */
+static void wide(unsigned nodes) {
+    rule(7, 0);
+    goal(nodes / 8);
+    for (unsigned i = 0; i < nodes / 8; i++) {
+        formula(1, 7);
+        for (int j = 0; j < 6; j++) constant(1);
+        variable(i);
+    }
+}
+
+/* p(c(V,c(W,..a))) by p(X) :- q(X) */
+static void named(unsigned nodes) {
+    rule(1, 0);
+    goal(1);
+    formula(1, 1);
+    for (unsigned i = 0; i < (nodes - 2) / 2; i++) {
+        compound(1, 2);
+        variable(i);
+    }
+    constant(1);
+}
+
+/* p(c(V,c(W,..a)),c(Y,c(Z,..a))), r by p(X,X) :- q(X,X): two terms are made equal, node by node. */
+static void joined(unsigned nodes) {
+    unsigned pairs = (nodes - 4) / 4, next = 0;
+    rule(2, 1);
+    goal(2);
+    formula(1, 2);
+    for (int side = 0; side < 2; side++) {
+        for (unsigned i = 0; i < pairs; i++) {
+            compound(1, 2);
+            variable(next++);
+        }
+        constant(1);
+    }
+    formula(3, 0);
+}
+
+int main(int words, char **word) {
+    static const struct {
+        const char *name;
+        void (*build)(unsigned);
+    } shapes[] = {{"deep", deep}, {"wide", wide}, {"named", named}, {"joined", joined}};
+    if (words != 3) return 2;
+    for (size_t i = 0; i < sizeof shapes / sizeof *shapes; i++) {
+        if (strcmp(word[1], shapes[i].name)) continue;
+        shapes[i].build((unsigned)atoi(word[2]));
+        uint64_t answer = pitxargole_run(10000, book, book_length, query, query_length, area, sizeof area);
+        return pitxargole_code(answer) == PITXARGOLE_STUCK && pitxargole_steps(answer) == 1 ? 0 : 1;
+    }
+    return 2;
+}
