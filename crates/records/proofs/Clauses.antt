@@ -95,22 +95,7 @@ pub stored-clause : {b : Next.Book} {words starts heads bodies : List ℕ} {clau
 stored-clause {b} {words} lh lb s p q k h =
     rw (s .places, p, q, add-one k) (found words (s .later-starts) lh lb b 0 (s .later-words) (s .good .clauses) (s .holds) k (omega (arith, s .count)))
 
--- The parts of a clause's words
+-- A clause's words
 
-module _ {c : Next.Clause} {words : List ℕ} {s e h m : ℕ} (a : ClauseAt c words s e h m) where
-  pub clause-words : take (e - s) (drop s words) ≡ goalWords (c .head ∷ c .body)
-  clause-words = ap (take (e - s)) (a .here) ∙ take-at (goalWords (c .head ∷ c .body)) (a .later) (e - s) (omega (arith, goal-long (c .head ∷ c .body), a .end))
-
-  by-head : drop s words ≡ wordsOf (c .head) ++ (goalWords (c .body) ++ a .later)
-  by-head = from-head c words s (a .later) (a .here)
-
-  pub head-words : take (h - s) (drop s words) ≡ wordsOf (c .head)
-  head-words = ap (take (h - s)) by-head ∙ take-at (wordsOf (c .head)) (goalWords (c .body) ++ a .later) (h - s) (omega (arith, words-length (c .head), a .head-end))
-
-  pub body-words : take (e - h) (drop h words) ≡ goalWords (c .body)
-  body-words =
-      let p = drop-past words s (wordsOf (c .head)) (goalWords (c .body) ++ a .later) by-head {end = h} (omega (arith, words-length (c .head), a .head-end)) in
-      ap (take (e - h)) p ∙ take-at (goalWords (c .body)) (a .later) (e - h) (omega (arith, goal-long (c .body), a .end, a .head-end))
-
-  pub head-formula : GoodClause c → FormulaAt words s (c .head)
-  head-formula good = head-at c words s (a .later) good (a .here)
+pub clause-words : {c : Next.Clause} {words : List ℕ} {s e h m : ℕ} → ClauseAt c words s e h m → take (e - s) (drop s words) ≡ goalWords (c .head ∷ c .body)
+clause-words {c} {words} {s} {e} a = ap (take (e - s)) (a .here) ∙ take-at (goalWords (c .head ∷ c .body)) (a .later) (e - s) (omega (arith, goal-long (c .head ∷ c .body), a .end))
