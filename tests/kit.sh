@@ -11,6 +11,7 @@ on_kit() {
 
 # archive: target/staticlib/libengine.a, made anew where a crate has changed since.
 archive() {
-    local built=target/staticlib/libengine.a
+    built=target/staticlib/libengine.a
+    mkdir -p target
     [ -f $built ] && [ -z "$(find crates crates.txt -newer $built -print -quit)" ] || rt staticlib engine >target/archive.log 2>&1 || { cat target/archive.log; return 1; }
 }

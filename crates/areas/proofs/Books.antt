@@ -1,10 +1,10 @@
 -- What `load_book` and `place_heads` leave of a good book holds it.
-use Prim.Native.Nat.{ℕ, suc, _+_, _-_, _≤_, _<_}
+use Prim.Native.Nat.{ℕ, _-_, _≤_}
 use native.Mathlib.Omega.{arith}
 use native.Mathlib.Numerals.{add-one}
 use mathlib.Core.Path.{_≡_}
-use mathlib.Core.List.{List, _∷_, _++_}
-use lib.ListN.{length, getD, drop}
+use mathlib.Core.List.{List, _++_}
+use lib.ListN.{length, drop}
 use Rattle.terms.specs.RowLaws.{row-long}
 use Rattle.search.specs.Next.{Clause, Book}
 use Rattle.words.specs.Held.{Placed, clause-at, BookIn}

@@ -12,8 +12,8 @@ use Rattle.records.specs.Format.{encodeGoal}
 use Rattle.records.specs.Storage.{Written}
 use Rattle.resolve.specs.declared.Move.{Move}
 use Rattle.resolve.specs.declared.Move.the-variants.{Stuck, Full, To}
-use Rattle.engine.specs.declared.Stepped.{Stepped}
 use Rattle.resolve.specs.Advancing.{Advanced}
+use Rattle.engine.specs.declared.Stepped.{Stepped}
 use Rattle.engine.specs.Stepping.{Gives, no-step, one-step, gives-20, gives-22, gives-24, gives-25}
 use Rattle.engine.proofs.Numbers.{number-within}
 

@@ -13,9 +13,9 @@ ghost use lib.ListN.{length, take};
 ghost use Rattle.search.specs.Next.{Book, Goal};
 ghost use Rattle.words.specs.Held.{GoalIn, BookIn};
 ghost use Rattle.areas.specs.Rooms.{Rooms};
+ghost use Rattle.searching.specs.Searching.{Ends};
 ghost use Rattle.engine.specs.Outcome.{refused, closing, runAnswer, runArea};
 ghost use Rattle.engine.specs.Refusals.{Good};
-ghost use Rattle.searching.specs.Searching.{Ends};
 ghost use Rattle.engine.specs.Running.{Leaves, answered};
 
 // "Codes 1 to 19 refuse the input .. and give steps, span, bytes and every count 0."

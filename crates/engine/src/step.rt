@@ -8,7 +8,7 @@ use areas::put_goal;
 use resolve::Move;
 use resolve::advance;
 ghost use mathlib.Core.Path.{_≡_};
-ghost use Prim.Native.Nat.{ℕ, _≤_};
+ghost use Prim.Native.Nat.{_≤_};
 ghost use mathlib.Core.List.{_∷_};
 ghost use lib.ListN.{length};
 ghost use Rattle.terms.specs.Node.{Expr};

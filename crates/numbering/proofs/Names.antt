@@ -15,7 +15,7 @@ use Rattle.terms.specs.Node.{var}
 use Rattle.terms.specs.Cases.{cases}
 use Rattle.terms.specs.Number.{place, within, grow, seen-after, number}
 use Rattle.terms.specs.NumberLaws.{number-append, seen-append}
-use Rattle.words.specs.Word.{kindOf, Plain, Valid, Fit, node, nodes}
+use Rattle.words.specs.Word.{kindOf, Plain, Fit, node, nodes}
 use Rattle.words.specs.WordLaws.{node-var, node-sym, word-var}
 use Rattle.numbering.specs.Naming.{Table, Named, NamedAt, Numbering}
 

@@ -9,10 +9,10 @@ ghost use mathlib.Core.List.{_++_};
 ghost use lib.ListN.{length, getD, drop};
 ghost use Rattle.terms.specs.Node.{Expr};
 ghost use Rattle.search.specs.Next.{Goal, Book};
+ghost use Rattle.words.specs.Word.{arityOf};
 ghost use Rattle.records.specs.Reading.{bodyLength, recordAt, bookVerdict, queryVerdict};
 ghost use Rattle.records.specs.Format.{encodeGoal};
 ghost use Rattle.records.specs.Decode.{bookOf, goalOf};
-ghost use Rattle.words.specs.Word.{arityOf};
 ghost use Rattle.records.specs.Words.{wordOf, goalWords, bookHeads, wordBytes, wordsBytes};
 ghost use Rattle.records.specs.Storage.{Written, Loaded, Stored, FormulaAt, Writable};
 

@@ -11,10 +11,10 @@ use Rattle.search.specs.NextLaws.{stuck-iff}
 use Rattle.search.specs.SingleLaws.{clauses-drop, next-from-iff}
 use Rattle.words.specs.Held.{GoalIn, Placed, clause-at, BookIn}
 use Rattle.words.specs.HeldLaws.{formula-in, clauses-of}
+use Rattle.picking.specs.Picking.{Picked}
 use Rattle.resolve.specs.declared.Move.{Move}
 use Rattle.resolve.specs.declared.Move.the-variants.{Stuck, Full, To}
 use Rattle.resolve.specs.Applying.{Stage}
-use Rattle.picking.specs.Picking.{Picked}
 use Rattle.resolve.specs.Advancing.{Follows, Advanced}
 
 -- the part of a goal that is its first formula

@@ -8,12 +8,12 @@ use lib.ListN.{length, take, drop}
 use lib.Seq.{length-take-le, take-take}
 use Rattle.terms.specs.Node.{Expr}
 use Rattle.words.specs.Word.{Fit, Fits}
+use Rattle.words.specs.WordLaws.{each-take, each-drop}
 use Rattle.unifier.specs.Solving.{Sides, Problem}
 use Rattle.unifier.specs.Trying.{Lent}
 use Rattle.unifier.specs.Writing.{Roomy}
-use Rattle.resolve.specs.Applying.{Solving, Store}
 use Rattle.picking.specs.Picking.{Bench}
-use Rattle.words.specs.WordLaws.{each-take, each-drop}
+use Rattle.resolve.specs.Applying.{Solving, Store}
 use Rattle.resolve.proofs.Nexts.{drop-take}
 
 module _ (words end up pick left right rank first stack out : List ℕ) (s : Store words end up pick left right rank first stack out) (p n : ℕ) where

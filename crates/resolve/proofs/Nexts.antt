@@ -21,13 +21,13 @@ use Rattle.words.specs.Flat.{flat, flat-append, flat-apply, flat-rename, flat-n
 use Rattle.words.specs.Held.{GoalIn, ClauseIn}
 use Rattle.words.specs.WordLaws.{each-append, each-take, each-drop, fits-more}
 use Rattle.words.specs.HeldLaws.{behind-is, first-length, formula-in, headed, head-length, head-in}
-use Rattle.numbering.specs.Naming.{Fitting, Numbering}
 use Rattle.unifier.specs.Solving.{Sides, Problem}
+use Rattle.numbering.specs.Naming.{Fitting, Numbering}
 use Rattle.picking.specs.Laying.{moved, Paired}
-use Rattle.resolve.specs.Applying.{Built, Wrote, Solving, Stage, Applied}
 use Rattle.picking.proofs.Appends.{nodes-moved, fits-moved}
-use Rattle.resolve.proofs.Builds.{built-paired, drop-moved}
 use Rattle.picking.proofs.Problems.{goal-name, clause-name, names-apart, no-meeting, sides, problem}
+use Rattle.resolve.specs.Applying.{Built, Wrote, Solving, Stage, Applied}
+use Rattle.resolve.proofs.Builds.{built-paired, drop-moved}
 
 number-length : (seen : List ℕ) (e : Expr) → length (number seen e) ≡ length e
 number-length seen [] = refl

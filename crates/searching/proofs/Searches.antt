@@ -1,8 +1,7 @@
 -- The loop of the search: where it starts, that it goes on, and that it ends.
 use Prim.Native.Nat.{ℕ, suc, _+_, _-_, _≤_, _<_}
 use native.Mathlib.Omega.{arith}
-use mathlib.Core.Path.{_≡_, refl, sym as inv, ap, _∙_, subst}
-use mathlib.Core.Option.{none}
+use mathlib.Core.Path.{_≡_, refl, sym as inv, _∙_, subst}
 use mathlib.Core.List.{List, _∷_}
 use lib.ListN.{length, take}
 use Rattle.terms.specs.Node.{Expr, same-expr}
@@ -10,15 +9,15 @@ use Rattle.loops.specs.Detect.{start, detect-zero}
 use Rattle.search.specs.Next.{Book, Goal}
 use Rattle.search.specs.Step.{next-goal}
 use Rattle.words.specs.Held.{GoalIn, BookIn}
+use Rattle.resolve.specs.declared.Move.{Move}
+use Rattle.resolve.specs.Applying.{Store}
+use Rattle.resolve.specs.Advancing.{Advanced}
 use Rattle.searching.specs.declared.detector.Detector.{Detector}
 use Rattle.searching.specs.declared.Place.{Place}
 use Rattle.searching.specs.declared.Ended.{Ended}
 use Rattle.searching.specs.declared.Turn.{Turn}
 use Rattle.searching.specs.declared.Turn.the-variants.{Open, Shut}
-use Rattle.resolve.specs.declared.Move.{Move}
 use Rattle.searching.specs.Detecting.{fresh}
-use Rattle.resolve.specs.Applying.{Store}
-use Rattle.resolve.specs.Advancing.{Advanced}
 use Rattle.searching.specs.Searching.{Reached, Somewhere, Ends, Opens, Turned, Onward, Looked, Ready, Room, Following, Followed}
 
 -- the state at the start

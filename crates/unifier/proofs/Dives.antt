@@ -8,8 +8,8 @@ use lib.ListN.{length, getD, set, length-set}
 use lib.Seq.{getD-set-same, getD-set-other}
 use lib.Dec.{eqb}
 use borrow.Author.Tests.{eq-eqb, ne-eqb}
-use Rattle.unifier.specs.Words.{child, Ends}
 use Rattle.words.specs.Word.{arityOf, Plain, Valids}
+use Rattle.unifier.specs.Words.{child, Ends}
 use Rattle.unifier.specs.Classes.{root, Agree, Label, Grouped}
 use Rattle.unifier.specs.Steps.{tally, oneIf}
 use Rattle.unifier.specs.Closing.{Good}

@@ -1,5 +1,5 @@
 -- Laws of ranks.
-use Prim.Native.Nat.{ℕ, suc, _+_, _-_, _≤_, _<_}
+use Prim.Native.Nat.{ℕ, suc, _+_, _≤_, _<_}
 use native.Mathlib.Omega.{arith}
 use native.Mathlib.Decide.{ℕ-discrete}
 use mathlib.Core.Path.{_≡_, ap, _∙_}
@@ -9,8 +9,8 @@ use lib.ListN.{length, getD, set, length-set}
 use lib.Seq.{getD-set-same, getD-set-other}
 use lib.Dec.{eqb}
 use borrow.Author.Tests.{eq-eqb, ne-eqb}
-use Rattle.unifier.specs.Words.{child}
 use Rattle.words.specs.Word.{arityOf}
+use Rattle.unifier.specs.Words.{child}
 use Rattle.unifier.specs.Classes.{root}
 use Rattle.unifier.specs.Steps.{tally, oneIf}
 use Rattle.unifier.specs.Ranking.{under, none, Ranked}

@@ -7,8 +7,8 @@ use mathlib.Core.Path.{_≡_, refl, sym, _∙_}
 use mathlib.Core.List.{List, _∷_}
 use lib.ListN.{length, getD, set, drop, length-drop}
 use lib.Seq.{getD-set-same, getD-set-other, drop-cons}
-use Rattle.unifier.specs.Words.{walkOf, Terms, terms-end, terms-more, Ended}
 use Rattle.words.specs.Word.{arityOf}
+use Rattle.unifier.specs.Words.{walkOf, Terms, terms-end, terms-more, Ended}
 
 pub terms-drop : {m : ℕ} {l : List ℕ} → Terms m l → (p : ℕ) → p ≤ length l → (k : ℕ) × Terms k (drop p l)
 terms-drop terms-end zero h = (0, terms-end)

@@ -1,5 +1,5 @@
 -- The first classes, a position at a time.
-use Prim.Native.Nat.{ℕ, suc, _+_, _%_, _-_, _≤_, _<_}
+use Prim.Native.Nat.{ℕ, suc, _+_, _%_, _≤_, _<_}
 use native.Mathlib.Omega.{arith}
 use native.Mathlib.Decide.{ℕ-discrete, decLt}
 use mathlib.Core.Path.{_≡_, refl, sym, ap, _∙_}
@@ -10,8 +10,8 @@ use mathlib.Core.Bool.{Bool, true, false}
 use lib.Seq.{getD-set-same, getD-set-other}
 use borrow.Author.Count.{below-more}
 use Rattle.terms.specs.Node.{Expr}
-use Rattle.unifier.specs.Words.{Ends}
 use Rattle.words.specs.Word.{kindOf, Plain, Valid}
+use Rattle.unifier.specs.Words.{Ends}
 use Rattle.unifier.specs.Classes.{root, Down, Agree, picked, Label}
 use Rattle.unifier.specs.Steps.{tally, own, oneIf, roots}
 use Rattle.unifier.specs.Closing.{Good, Closed}

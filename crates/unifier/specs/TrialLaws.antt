@@ -14,8 +14,8 @@ use Rattle.terms.specs.RowLaws.{row-append, row-unique, first-row}
 use Rattle.terms.specs.Subst.{Subst, apply, itself, Proper, Unifies, MostGeneral}
 use Rattle.terms.specs.Argument.{firsts, Unifiable, Clashes-at, clash}
 use Rattle.terms.specs.ArgumentLaws.{Tried, tried-clash}
-use Rattle.unifier.specs.Words.{child, Terms, terms-end, terms-more, Ends}
 use Rattle.words.specs.Word.{kindOf, arityOf, Plain, Valids, node, nodes}
+use Rattle.unifier.specs.Words.{child, Terms, terms-end, terms-more, Ends}
 use Rattle.unifier.specs.Steps.{Args}
 use Rattle.unifier.specs.Closing.{Good}
 use Rattle.unifier.specs.Nodes.{term, value, cat}

@@ -4,8 +4,8 @@ use mathlib.Core.Path.{_≡_}
 use mathlib.Core.List.{List, [], _++_}
 use lib.ListN.{length, getD, take}
 use Rattle.terms.specs.Node.{Expr}
-use Rattle.unifier.specs.Words.{child}
 use Rattle.words.specs.Word.{nodes}
+use Rattle.unifier.specs.Words.{child}
 
 -- what waits on a stack, from the top down
 abbrev pub pending : (ℕ → Expr) → List ℕ → ℕ → Expr

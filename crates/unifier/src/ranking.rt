@@ -6,8 +6,8 @@ use crate::reading::get;
 ghost use mathlib.Core.Path.{_≡_};
 ghost use Prim.Native.Nat.{ℕ, _<_};
 ghost use lib.ListN.{length, getD};
-ghost use Rattle.unifier.specs.Classes.{Grouped};
 ghost use Rattle.words.specs.Word.{Valids};
+ghost use Rattle.unifier.specs.Classes.{Grouped};
 ghost use Rattle.unifier.specs.Ranking.{Settled};
 ghost use Rattle.unifier.specs.Diving.{Searched, Opened, Dive, Diving};
 

@@ -11,8 +11,8 @@ ghost use mathlib.Core.List.{[], _∷_};
 ghost use Prim.Native.Nat.{ℕ, _+_, _<_, _≤_};
 ghost use lib.ListN.{length};
 ghost use Rattle.terms.specs.Subst.{apply};
-ghost use Rattle.unifier.specs.Words.{child};
 ghost use Rattle.words.specs.Word.{kindOf, Valid, node};
+ghost use Rattle.unifier.specs.Words.{child};
 ghost use Rattle.unifier.specs.Solving.{resolved, solution, Solved};
 ghost use Rattle.unifier.specs.Writing.{Pushed, Of, Written, Bound, Roomy};
 

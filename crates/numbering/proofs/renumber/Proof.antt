@@ -1,10 +1,9 @@
 use borrow.Author.Needs.{needs}
-use Prim.Native.Nat.{ℕ, zero, suc, _+_, _-_, _%_, _<_, _≤_}
+use Prim.Native.Nat.{_-_, _≤_}
 use native.Mathlib.Omega.{arith}
-use mathlib.Core.Path.{_≡_, refl, sym, ap, _∙_}
-use mathlib.Core.List.{List, [], _∷_}
-use lib.ListN.{length, getD}
-use Rattle.numbering.specs.Naming.{NamedAt}
+use mathlib.Core.Path.{_≡_, refl, _∙_}
+use mathlib.Core.List.{[]}
+use lib.ListN.{length}
 use Rattle.numbering.proofs.Names.{Upto, upto-start, upto-more, upto-end}
 use Rattle.numbering.proofs.renumber.Statement.{statement}
 use Rattle.numbering.proofs.renumber.Tie as tie

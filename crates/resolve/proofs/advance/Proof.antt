@@ -1,8 +1,8 @@
 use native.Mathlib.Omega.{arith}
 use mathlib.Core.Path.{_∙_}
 use Rattle.words.specs.HeldLaws.{first-length}
-use Rattle.resolve.proofs.Lending.{bench, stock}
 use Rattle.picking.proofs.Benches.{rebenched}
+use Rattle.resolve.proofs.Lending.{bench, stock}
 use Rattle.resolve.proofs.Advances.{formula-part, moves-stuck, moves}
 use borrow.Author.Needs.{needs}
 use Rattle.resolve.proofs.advance.Statement.{statement}

@@ -1,5 +1,4 @@
 use Rattle.searching.proofs.Follows.{follow-stuck, follow-full-spent, follow-full, follow-spent, follow-moving, follow-on}
-use native.Mathlib.Omega.{arith}
 use borrow.Author.Needs.{needs}
 use Rattle.searching.proofs.follow.Statement.{statement}
 use Rattle.searching.proofs.follow.Tie as tie

@@ -1,7 +1,7 @@
 use Rattle.searching.proofs.Turns.{turn-of}
 use Prim.Native.Nat.{_-_}
 use Rattle.searching.proofs.Looks.{look-solved, first-there, front-there, look-judged}
-use mathlib.Core.Path.{_≡_, refl, sym, ap, _∙_}
+use mathlib.Core.Path.{sym, ap, _∙_}
 use native.Mathlib.Omega.{arith}
 use borrow.Author.Needs.{needs}
 use Rattle.searching.proofs.look.Statement.{statement}

@@ -1,6 +1,4 @@
 use Rattle.searching.proofs.Moves.{keep-room, copy-room, moved-somewhere, moved-turn}
-use mathlib.Core.Path.{_≡_, refl, sym, ap, _∙_}
-use native.Mathlib.Omega.{arith}
 use borrow.Author.Needs.{needs}
 use Rattle.searching.proofs.move_on.Statement.{statement}
 use Rattle.searching.proofs.move_on.Tie as tie

@@ -1,7 +1,7 @@
-use Prim.Native.Nat.{_-_, _≤_, _<_}
+use Prim.Native.Nat.{_-_}
 use native.Mathlib.Omega.{arith}
-use mathlib.Core.Path.{_≡_, refl, sym, ap, _∙_}
-use lib.ListN.{length, take}
+use mathlib.Core.Path.{_≡_, refl, sym, _∙_}
+use lib.ListN.{length}
 use Rattle.resolve.specs.Applying.{Store}
 use Rattle.searching.specs.Searching.{Room, Turned}
 use Rattle.searching.proofs.Searches.{left as leftOver, Everywhere, start-somewhere, start-turn, open-goal, open-within, open-following, open-turn, open-less, shut-ends, restore, reroom}

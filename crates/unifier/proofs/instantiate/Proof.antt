@@ -8,10 +8,10 @@ use mathlib.Core.List.{_++_, map-append}
 use lib.ListN.{take, take-append-drop}
 use lib.Seq.{take-all}
 use Rattle.terms.specs.Subst.{apply}
+use Rattle.terms.specs.SubstLaws.{apply-append}
 use Rattle.words.specs.Word.{node, nodes}
 use Rattle.unifier.specs.Solving.{solution}
 use Rattle.unifier.specs.Writing.{Of, Written, Roomy}
-use Rattle.terms.specs.SubstLaws.{apply-append}
 use Rattle.unifier.proofs.Applied.{widened, then-written, full-more, apply-take}
 use borrow.Author.Needs.{needs}
 use Rattle.unifier.proofs.instantiate.Statement.{statement}

@@ -8,8 +8,8 @@ use lib.ListN.{length, getD, drop}
 use Rattle.terms.specs.Node.{Expr}
 use Rattle.terms.specs.Argument.{Clashes-at}
 use Rattle.terms.specs.ArgumentLaws.{unified, clashed}
-use Rattle.unifier.specs.Words.{child}
 use Rattle.words.specs.Word.{arityOf}
+use Rattle.unifier.specs.Words.{child}
 use Rattle.unifier.specs.Closing.{Closed}
 use Rattle.unifier.specs.Solving.{Sides, Problem, Solved}
 use Rattle.unifier.specs.Trying.{Spare, Trial, Argued, Verdict}

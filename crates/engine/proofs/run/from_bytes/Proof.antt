@@ -1,16 +1,16 @@
-use Rattle.engine.specs.Running.{search-leaves}
 use Rattle.records.specs.Decode.{bookOf, goalOf}
+use Rattle.engine.specs.Running.{search-leaves}
 use lib.Seq.{length-take-le}
 use mathlib.Core.Path.{sym as inv}
 use native.Mathlib.Omega.{arith}
 use borrow.Author.Needs.{needs}
+use Rattle.areas.proofs.open_book.Reads as open-book-reads
+use Rattle.areas.proofs.open_query.Reads as open-query-reads
+use Rattle.areas.proofs.put_goal.Reads as put-goal-reads
 use Rattle.engine.proofs.run.from_bytes.Statement.{statement}
 use Rattle.engine.proofs.run.from_bytes.Tie as tie
 use Rattle.engine.proofs.run.from_bytes.Reads as reads
 use Rattle.engine.proofs.run.from_bytes.Lts as lts
-use Rattle.areas.proofs.open_book.Reads as open-book-reads
-use Rattle.areas.proofs.open_query.Reads as open-query-reads
-use Rattle.areas.proofs.put_goal.Reads as put-goal-reads
 use Rattle.engine.proofs.run.answered.Reads as answered-reads
 use Rattle.engine.proofs.run.from_goal.Reads as from-goal-reads
 

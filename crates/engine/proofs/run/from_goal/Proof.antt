@@ -2,11 +2,11 @@ use native.Mathlib.Omega.{arith}
 use lib.ListN.{length-replicate}
 use Prim.Native.Nat.{ℕ}
 use borrow.Author.Needs.{needs}
+use Rattle.searching.proofs.search.Reads as search-reads
 use Rattle.engine.proofs.run.from_goal.Statement.{statement}
 use Rattle.engine.proofs.run.from_goal.Tie as tie
 use Rattle.engine.proofs.run.from_goal.Reads as reads
 use Rattle.engine.proofs.run.from_goal.Lts as lts
-use Rattle.searching.proofs.search.Reads as search-reads
 
 -- src/run.rt:83:9
 slice-aggregate-search : tie.Need-slice-aggregate-search

@@ -3,12 +3,12 @@ use mathlib.Core.Path.{sym as inv}
 use lib.Seq.{length-take-le}
 use Rattle.records.specs.Decode.{bookOf, goalOf}
 use borrow.Author.Needs.{needs}
+use Rattle.areas.proofs.open_book.Reads as open-book-reads
+use Rattle.areas.proofs.open_query.Reads as open-query-reads
 use Rattle.engine.proofs.step.from_bytes.Statement.{statement}
 use Rattle.engine.proofs.step.from_bytes.Tie as tie
 use Rattle.engine.proofs.step.from_bytes.Reads as reads
 use Rattle.engine.proofs.step.from_bytes.Lts as lts
-use Rattle.areas.proofs.open_book.Reads as open-book-reads
-use Rattle.areas.proofs.open_query.Reads as open-query-reads
 use Rattle.engine.proofs.step.from_goal.Reads as from-goal-reads
 
 -- src/step.rt:184:9

@@ -3,14 +3,14 @@ use lib.Seq.{length-take-le}
 use mathlib.Core.Path.{sym as inv}
 use Rattle.engine.proofs.Steps.{went-nowhere, went-too-far, went-room, went-goal, went-number, went}
 use borrow.Author.Needs.{needs}
+use Rattle.areas.proofs.put_goal.Reads as put-goal-reads
+use Rattle.resolve.proofs.advance.Reads as advance-reads
 use Rattle.engine.proofs.step.from_formula.Statement.{statement}
 use Rattle.engine.proofs.step.from_formula.Tie as tie
 use Rattle.engine.proofs.step.from_formula.Reads as reads
 use Rattle.engine.proofs.step.from_formula.Lts as lts
-use Rattle.areas.proofs.put_goal.Reads as put-goal-reads
 use Rattle.engine.proofs.step.no_step.Reads as no-step-reads
 use Rattle.engine.proofs.step.one_step.Reads as one-step-reads
-use Rattle.resolve.proofs.advance.Reads as advance-reads
 
 -- src/step.rt:91:11
 advance-requires : tie.Need-advance-requires

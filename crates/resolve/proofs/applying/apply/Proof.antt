@@ -2,7 +2,6 @@ use native.Mathlib.Omega.{arith}
 use mathlib.Core.Path.{_∙_}
 use Rattle.resolve.proofs.Lending.{restored}
 use Rattle.resolve.proofs.Nexts.{first-within, behind, inside, all-fit, problem-of, ends-apart, ends-full, ends-many, ends-done, fill-ready}
-use borrow.Author.Needs.{needs}
 use Rattle.resolve.proofs.applying.apply.Statement.{statement}
 use Rattle.resolve.proofs.applying.apply.Tie as tie
 

@@ -1,7 +1,5 @@
-use native.Mathlib.Omega.{arith}
 use Rattle.picking.proofs.Problems.{worded}
 use Rattle.resolve.proofs.Solves.{missing, present}
-use borrow.Author.Needs.{needs}
 use Rattle.resolve.proofs.applying.solve.Statement.{statement}
 use Rattle.resolve.proofs.applying.solve.Tie as tie
 

@@ -1,6 +1,6 @@
 use lib.Seq.{length-take-le}
-use lib.ListN.{length, take}
-use mathlib.Core.Path.{_≡_, ap}
+use lib.ListN.{length}
+use mathlib.Core.Path.{ap}
 use native.Mathlib.Omega.{arith}
 use borrow.Author.Needs.{needs}
 use Rattle.searching.proofs.leftmost.same_front.Statement.{statement}

@@ -5,8 +5,8 @@ use mathlib.Core.Path.{_≡_, refl, sym, ap, _∙_}
 use mathlib.Core.List.{List, []}
 use lib.ListN.{length, getD}
 use borrow.Author.Count.{below-more}
-use Rattle.unifier.specs.Words.{child, Ends}
 use Rattle.words.specs.Word.{arityOf}
+use Rattle.unifier.specs.Words.{child, Ends}
 use Rattle.unifier.specs.Steps.{State, state, Args, Step, Fails, Outcome}
 use Rattle.unifier.proofs.Stepping.{restated, followed, idle}
 use borrow.Author.Needs.{needs}

@@ -4,8 +4,8 @@ use mathlib.Core.Path.{_≡_, refl, sym, ap, _∙_}
 use mathlib.Core.List.{List}
 use lib.ListN.{length, getD, set}
 use lib.Seq.{getD-set-same, getD-set-other}
-use Rattle.unifier.specs.Words.{child}
 use Rattle.words.specs.Word.{arityOf, Valids}
+use Rattle.unifier.specs.Words.{child}
 use Rattle.unifier.specs.Classes.{root, Agree, Label, Grouped}
 use Rattle.unifier.specs.Steps.{tally}
 use Rattle.unifier.specs.Closing.{Good}

@@ -5,8 +5,8 @@ use mathlib.Core.Path.{_≡_, sym, ap, _∙_}
 use mathlib.Core.List.{List}
 use lib.ListN.{length, getD}
 use borrow.Author.Count.{below-more}
-use Rattle.unifier.specs.Words.{child}
 use Rattle.words.specs.Word.{arityOf}
+use Rattle.unifier.specs.Words.{child}
 use Rattle.unifier.specs.Classes.{root}
 use Rattle.unifier.specs.Ranking.{under}
 use Rattle.unifier.specs.Diving.{Searched, Opened}

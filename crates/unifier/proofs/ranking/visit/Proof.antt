@@ -1,10 +1,10 @@
-use Prim.Native.Nat.{ℕ, _-_, _<_}
+use Prim.Native.Nat.{ℕ, _<_}
 use native.Mathlib.Omega.{arith}
 use mathlib.Core.Path.{_≡_, _∙_}
 use mathlib.Core.List.{List}
 use lib.ListN.{length, getD}
-use Rattle.unifier.specs.Classes.{Grouped}
 use Rattle.words.specs.Word.{Valids}
+use Rattle.unifier.specs.Classes.{Grouped}
 use Rattle.unifier.specs.Diving.{Searched, Dive, Diving}
 use borrow.Author.Needs.{needs}
 use Rattle.unifier.proofs.ranking.visit.Statement.{statement}

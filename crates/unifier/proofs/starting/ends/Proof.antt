@@ -4,8 +4,8 @@ use mathlib.Core.Path.{_≡_, ap, _∙_}
 use mathlib.Core.List.{List}
 use lib.ListN.{length, getD, set}
 use native.Mathlib.Decide.{ℕ-discrete}
-use Rattle.unifier.specs.Words.{walkOf, Whole, Ended}
 use Rattle.words.specs.Word.{arityOf}
+use Rattle.unifier.specs.Words.{walkOf, Whole, Ended}
 use Rattle.unifier.proofs.Rows.{ended-other, ended-here, some-term, args-row, walk-inside, walk-within}
 use borrow.Author.Needs.{needs}
 use Rattle.unifier.proofs.starting.ends.Statement.{statement}

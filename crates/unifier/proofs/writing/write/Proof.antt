@@ -9,8 +9,8 @@ use mathlib.Core.List.{_++_, append-assoc, append-nil}
 use lib.ListN.{take, length-append, length-map}
 use lib.Seq.{length-take-le}
 use Rattle.terms.specs.Node.{Expr}
-use Rattle.unifier.specs.Words.{child}
 use Rattle.words.specs.Word.{arityOf, node, nodes}
+use Rattle.unifier.specs.Words.{child}
 use Rattle.unifier.specs.Classes.{root}
 use Rattle.unifier.specs.Nodes.{cat}
 use Rattle.unifier.specs.Solving.{resolved, Solved}
