@@ -9,12 +9,12 @@ use mathlib.Core.List.{List, [], _∷_, _++_, map-append}
 use lib.ListN.{length, getD, set, take, length-set, length-append}
 use lib.Seq.{take-suc, getD-set-same, getD-set-other, ext-getD, getD-take, length-take-le}
 use lib.Dec.{eqb}
-use borrow.Author.Tests.{eq-eqb, ne-eqb}
+use borrow.Author.Tests.{ne-eqb}
 use borrow.Author.Count.{below-more}
 use Rattle.terms.specs.Node.{var}
 use Rattle.terms.specs.Cases.{cases}
 use Rattle.terms.specs.Number.{place, within, grow, seen-after, number}
-use Rattle.terms.specs.NumberLaws.{number-append, seen-append}
+use Rattle.terms.specs.NumberLaws.{number-append, seen-append, within-last, place-last}
 use Rattle.words.specs.Word.{kindOf, Plain, Fit, node, nodes}
 use Rattle.words.specs.WordLaws.{node-var, node-sym, word-var}
 use Rattle.numbering.specs.Naming.{Table, Named, NamedAt, Numbering}
@@ -27,14 +27,6 @@ last-within w v (x ∷ l) n = cases (eqb w x) (λ p. rw (p, within)) (λ p. rw (
 last-place : (w v : ℕ) (l : List ℕ) → within w l ≡ true → place w (l ++ (v ∷ [])) ≡ place w l
 last-place w v [] h = cc
 last-place w v (x ∷ l) h = cases (eqb w x) (λ p. rw (p, place)) (λ p. rw (p, place) (ap suc (last-place w v l (rw (p, within) at h))))
-
-own-place : (v : ℕ) (l : List ℕ) → within v l ≡ false → place v (l ++ (v ∷ [])) ≡ length l
-own-place v [] h = rw (eq-eqb v v refl, place)
-own-place v (x ∷ l) h = cases (eqb v x) (λ p. let z : true ≡ false = rw (p, within) at h in cc) (λ p. rw (p, place) (ap suc (own-place v l (rw (p, within) at h))))
-
-own-within : (v : ℕ) (l : List ℕ) → within v (l ++ (v ∷ [])) ≡ true
-own-within v [] = rw (eq-eqb v v refl, within)
-own-within v (x ∷ l) = cases (eqb v x) (λ p. rw (p, within)) (λ p. rw (p, within) (own-within v l))
 
 place-lt : (v : ℕ) (l : List ℕ) → within v l ≡ true → place v l < length l
 place-lt v [] h = let z : _≡_ {A = ℕ} 0 1 = cc in absurd (omega arith)
@@ -49,13 +41,13 @@ module _ (seen table : List ℕ) (count : ℕ) (t : Table seen table count) wher
   grown v h n = record {
     counted = omega (arith, t .counted, length-append seen (v ∷ []));
     old = λ w l q. elim (ℕ-discrete w v) [
-      | yes e ↦ ap (λ i. getD (set table v (count + 1)) i 0) e ∙ getD-set-same table v (count + 1) 0 h ∙ add-one count ∙ ap suc (t .counted ∙ inv (own-place v seen n) ∙ ap (λ i. place i (seen ++ (v ∷ []))) (inv e))
+      | yes e ↦ ap (λ i. getD (set table v (count + 1)) i 0) e ∙ getD-set-same table v (count + 1) 0 h ∙ add-one count ∙ ap suc (t .counted ∙ inv (place-last v seen n) ∙ ap (λ i. place i (seen ++ (v ∷ []))) (inv e))
       | no m ↦
           let q′ : within w seen ≡ true = inv (last-within w v seen m) ∙ q in
           getD-set-other table v w (count + 1) 0 m ∙ t .old w (simp length-set at l) q′ ∙ ap suc (inv (last-place w v seen q′))
     ];
     new = λ w l q. elim (ℕ-discrete w v) [
-      | yes e ↦ absurd (bool-clash (inv (own-within v seen) ∙ ap (λ i. within i (seen ++ (v ∷ []))) (inv e) ∙ q))
+      | yes e ↦ absurd (bool-clash (inv (within-last v seen) ∙ ap (λ i. within i (seen ++ (v ∷ []))) (inv e) ∙ q))
       | no m ↦ getD-set-other table v w (count + 1) 0 m ∙ t .new w (simp length-set at l) (inv (last-within w v seen m) ∙ q)
     ];
   }
@@ -87,7 +79,7 @@ module _ (seen table : List ℕ) (count : ℕ) (t : Table seen table count) wher
         let w = word-var count z small ez in
         record {
           table = subst (λ s. Table s (set table (u % 65536) (count + 1)) (count + 1)) (inv (seen-at ∙ g)) (grown (u % 65536) h n);
-          same = ap (λ m. m ∷ []) (node-var z (w .0) ∙ ap var (w .1 ∙ t .counted ∙ inv (own-place (u % 65536) seen n) ∙ ap (place (u % 65536)) (inv g))) ∙ inv number-at;
+          same = ap (λ m. m ∷ []) (node-var z (w .0) ∙ ap var (w .1 ∙ t .counted ∙ inv (place-last (u % 65536) seen n) ∙ ap (place (u % 65536)) (inv g))) ∙ inv number-at;
           fit = record { valid = w .2; below = λ q. omega (arith, w .1) };
         }
 

@@ -1,5 +1,5 @@
 -- The problem that is built, and the next goal that comes of it.
-use Prim.Native.Nat.{ℕ, suc, _+_, _-_, _≤_, _<_}
+use Prim.Native.Nat.{ℕ, _+_, _-_, _≤_, _<_}
 use native.Mathlib.Omega.{arith}
 use mathlib.Core.Path.{_≡_, refl, sym as inv, ap, ap₂, _∙_, subst}
 use mathlib.Core.Bool.{Bool, true, false, _&&_}
@@ -8,11 +8,11 @@ use lib.ListN.{length, take, drop, length-append, length-map}
 use lib.Seq.{drop-at, take-add, length-take-le, getD-take}
 use lib.Dec.{leb}
 use borrow.Author.Tests.{le-leb, lt-leb}
-use Rattle.terms.specs.Node.{var, sym, Expr}
+use Rattle.terms.specs.Node.{Expr}
 use Rattle.terms.specs.Subst.{Subst, apply, MostGeneral}
 use Rattle.terms.specs.Rename.{rename}
-use Rattle.terms.specs.Number.{grow, number, number-all}
-use Rattle.terms.specs.NumberLaws.{number-all-length}
+use Rattle.terms.specs.Number.{number, number-all}
+use Rattle.terms.specs.NumberLaws.{number-all-length, number-length}
 use Rattle.search.specs.Next.{Clause, Goal, resolvent, Resolved}
 use Rattle.search.specs.NextLaws.{resolved-formulas, resolved-atoms}
 use Rattle.search.specs.Room.{nodes as size, fits}
@@ -28,11 +28,6 @@ use Rattle.picking.proofs.Appends.{nodes-moved, fits-moved}
 use Rattle.picking.proofs.Problems.{goal-name, clause-name, names-apart, no-meeting, sides, problem}
 use Rattle.resolve.specs.Applying.{Built, Wrote, Solving, Stage, Applied}
 use Rattle.resolve.proofs.Builds.{built-paired, drop-moved}
-
-number-length : (seen : List ℕ) (e : Expr) → length (number seen e) ≡ length e
-number-length seen [] = refl
-number-length seen (var v ∷ e) = ap suc (number-length (grow seen v) e)
-number-length seen (sym s ∷ e) = ap suc (number-length seen e)
 
 -- a part behind a part
 pub drop-take : (p r : ℕ) (z : List ℕ) → p ≤ r → r ≤ length z → take (r - p) (drop p z) ≡ drop p (take r z)
