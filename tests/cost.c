@@ -1,4 +1,4 @@
-/* cost SHAPE NODES: one step, from a goal of so many nodes to another of as many, at which the search is stuck. */
+/* cost SHAPE NODES STEPS: a run from a goal of so many nodes that is stuck at once (0), or after one step, at a goal of as many nodes (1). */
 #include <stdlib.h>
 #include <string.h>
 
@@ -25,6 +25,7 @@ void *memcpy(void *restrict to, const void *restrict from, size_t length) {
 
 static uint8_t book[128], query[PITXARGOLE_AREA], area[PITXARGOLE_AREA];
 static size_t book_length, query_length;
+static unsigned steps;
 
 /* The records of document 01. */
 static void record(uint8_t kind, unsigned number, int arity) {
@@ -40,12 +41,12 @@ static void compound(unsigned number, int arity) { record(3, number, arity); }
 static void formula(unsigned number, int arity) { record(4, number, arity); }
 static void goal(unsigned formulas) { record(6, formulas, -1); }
 
-/* p(X,Y,..) :- q(X,Y,..), or the same with one variable. */
+/* p(X,Y,..) :- q(X,Y,..), or the same with one variable; a run of no step has s in the place of p. */
 static void rule(int arity, int same) {
     book[0] = 5;
     book[1] = 1;
     for (unsigned side = 0; side < 2; side++) {
-        formula(1 + side, arity);
+        formula(side ? 2 : steps ? 1 : 4, arity);
         for (int i = 0; i < arity; i++) variable(same ? 0 : (unsigned)i);
     }
     book_length = 2 + query_length;
@@ -107,12 +108,13 @@ int main(int words, char **word) {
         const char *name;
         void (*build)(unsigned);
     } shapes[] = {{"deep", deep}, {"wide", wide}, {"named", named}, {"joined", joined}};
-    if (words != 3) return 2;
+    if (words != 4) return 2;
+    steps = (unsigned)atoi(word[3]);
     for (size_t i = 0; i < sizeof shapes / sizeof *shapes; i++) {
         if (strcmp(word[1], shapes[i].name)) continue;
         shapes[i].build((unsigned)atoi(word[2]));
         uint64_t answer = pitxargole_run(10000, book, book_length, query, query_length, area, sizeof area);
-        return pitxargole_code(answer) == PITXARGOLE_STUCK && pitxargole_steps(answer) == 1 ? 0 : 1;
+        return pitxargole_code(answer) == PITXARGOLE_STUCK && pitxargole_steps(answer) == steps ? 0 : 1;
     }
     return 2;
 }
