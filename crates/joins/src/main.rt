@@ -8,7 +8,7 @@ use crate::building::predicate;
 use crate::building::variable;
 use crate::guarding::guarded;
 use libc::STDOUT_FILENO;
-ghost use mathlib.Core.Path.{_≡_};
+use words::get;
 ghost use Prim.Native.Nat.{_<_, _≤_};
 ghost use lib.ListN.{length};
 ghost use Rattle.unifier.specs.Trying.{Lent};
@@ -16,18 +16,12 @@ ghost use Rattle.unifier.specs.Trying.{Lent};
 mod building;
 mod guarding;
 
-fn wide(x: u16) -> usize
-    ensures { λ r. ⌜ r ≡ x ⌝ }
-{
-    x as usize
-}
-
 // 1 for a root.
 fn own(up: &[u16], p: usize) -> usize
     requires { ⌜ p < length (now up) ⌝ }
     ensures { λ r. ⌜ r ≤ 1 ⌝ }
 {
-    let q = wide(up[p]);
+    let q = get(up, p);
     if q == p {
         return 1;
     }

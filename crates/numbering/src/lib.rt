@@ -1,41 +1,11 @@
 // Variables of words numbered anew: "Variables are numbered from 0 by first appearance, left to right" (document 01).
-
-ghost use mathlib.Core.Path.{_≡_};
-ghost use Prim.Native.Nat.{ℕ, _<_, _≤_};
+use words::clear;
+use words::get;
+use words::word;
+ghost use Prim.Native.Nat.{_<_, _≤_};
 ghost use lib.ListN.{length, getD};
 ghost use Rattle.words.specs.Word.{Fit};
 ghost use Rattle.numbering.specs.Naming.{NamedAt, Fitting, Numbering};
-
-fn wide(x: u16) -> usize
-    ensures { λ r. ⌜ (r ≡ x) × (r < 65536) ⌝ }
-{
-    x as usize
-}
-
-fn get(xs: &[u16], i: usize) -> usize
-    requires { ⌜ i < length (now xs) ⌝ }
-    ensures { λ r. ⌜ (r ≡ getD (now (xs .entry)) i 0) × (r < 65536) ⌝ }
-{
-    wide(xs[i])
-}
-
-fn word(words: &[u32], p: usize) -> u32
-    requires { ⌜ p < length (now words) ⌝ }
-    ensures { λ r. ⌜ r ≡ getD (now (words .entry)) p 0 ⌝ }
-{
-    words[p]
-}
-
-// Noughts.
-fn clear(table: &mut [u16])
-    ensures { λ _. ⌜ ((r : ℕ) → getD (now (table .exit)) r 0 ≡ 0) ⌝ }
-{
-    let mut i = 0;
-    while i < table.len() {
-        table[i] = 0;
-        i += 1;
-    }
-}
 
 // The word at i numbered, after `count` variables: how many they are then.
 fn name(words: &mut [u32], table: &mut [u16], i: usize, count: usize) -> usize

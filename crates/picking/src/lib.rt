@@ -1,5 +1,7 @@
 // The first clause whose head unifies with a formula, in words.
-
+use words::arity;
+use words::get;
+use words::word;
 ghost use mathlib.Core.Path.{_≡_};
 ghost use mathlib.Core.List.{List, [], _∷_};
 ghost use Prim.Native.Nat.{ℕ, _+_, _<_, _≤_};
@@ -11,33 +13,6 @@ ghost use Rattle.words.specs.Held.{GoalIn, ClauseIn, BookIn};
 ghost use Rattle.words.specs.HeldLaws.{headed};
 ghost use Rattle.picking.specs.Laying.{moved, Appended, Paired};
 ghost use Rattle.picking.specs.Picking.{Bench, Laid, Unified, Argued, Picked};
-
-fn wide(x: u16) -> usize
-    ensures { λ r. ⌜ (r ≡ x) × (r < 65536) ⌝ }
-{
-    x as usize
-}
-
-fn get(xs: &[u16], i: usize) -> usize
-    requires { ⌜ i < length (now xs) ⌝ }
-    ensures { λ r. ⌜ (r ≡ getD (now (xs .entry)) i 0) × (r < 65536) ⌝ }
-{
-    wide(xs[i])
-}
-
-fn word(words: &[u32], p: usize) -> u32
-    requires { ⌜ p < length (now words) ⌝ }
-    ensures { λ r. ⌜ r ≡ getD (now (words .entry)) p 0 ⌝ }
-{
-    words[p]
-}
-
-// How many arguments follow a word.
-fn arity(u: u32) -> usize
-    ensures { λ r. ⌜ (r ≡ arityOf u) × (r < 256) ⌝ }
-{
-    (u / 65536 % 256) as usize
-}
 
 // How many words the goal's first formula has.
 pub fn extent(goal: &[u32]) -> usize

@@ -2,10 +2,11 @@
 use crate::applying::APART;
 use crate::applying::FULL;
 use crate::applying::apply;
+use words::get;
 ghost use mathlib.Core.Path.{_≡_};
 ghost use mathlib.Core.List.{_∷_};
 ghost use Prim.Native.Nat.{_-_, _<_, _≤_};
-ghost use lib.ListN.{length, getD};
+ghost use lib.ListN.{length};
 ghost use Rattle.terms.specs.Node.{Expr};
 ghost use Rattle.search.specs.Next.{Book, Goal};
 ghost use Rattle.words.specs.Held.{GoalIn, BookIn};
@@ -19,19 +20,6 @@ pub enum Move {
     Full,
     // the clause's number, the words and the formulas of the next goal
     To(usize, usize, usize),
-}
-
-fn wide(x: u16) -> usize
-    ensures { λ r. ⌜ (r ≡ x) × (r < 65536) ⌝ }
-{
-    x as usize
-}
-
-fn get(xs: &[u16], i: usize) -> usize
-    requires { ⌜ i < length (now xs) ⌝ }
-    ensures { λ r. ⌜ (r ≡ getD (now (xs .entry)) i 0) × (r < 65536) ⌝ }
-{
-    wide(xs[i])
 }
 
 // The goal that follows by the clause number i; m is the goal's first formula's words.

@@ -1,8 +1,8 @@
 // Classes joined, and all that follows: a pair once joined is never visited again (document 02, C-15), for each join makes one root fewer.
 use crate::CLASH;
 use crate::reading::arity;
-use crate::reading::get;
-use crate::reading::word;
+use words::get;
+use words::word;
 ghost use mathlib.Core.Path.{_≡_};
 ghost use Prim.Native.Nat.{_<_, _≤_};
 ghost use lib.ListN.{length, getD};

@@ -4,14 +4,14 @@
 // position of the class that is no variable's where there is one; `rank`, at a root, a number above those of its arguments; `left` and `right`, pairs
 // whose arguments are to be joined, and later the stack of the search for cycles. `first` has for each variable a position where it stands.
 use crate::closing::close;
-use crate::ranking::clear;
 use crate::ranking::settle;
 use crate::reading::arity;
-use crate::reading::get;
-use crate::reading::word;
 use crate::starting::ends;
 use crate::starting::start;
 use crate::writing::emit;
+use words::clear;
+use words::get;
+use words::word;
 ghost use mathlib.Core.Path.{_≡_};
 ghost use mathlib.Core.Logic.{_⊎_};
 ghost use mathlib.Core.List.{List};

@@ -2,25 +2,14 @@
 use crate::CLASH;
 use crate::reading::arity;
 use crate::reading::find;
-use crate::reading::get;
+use words::get;
 ghost use mathlib.Core.Path.{_≡_};
-ghost use Prim.Native.Nat.{ℕ, _<_};
+ghost use Prim.Native.Nat.{_<_};
 ghost use lib.ListN.{length, getD};
 ghost use Rattle.words.specs.Word.{Valids};
 ghost use Rattle.unifier.specs.Classes.{Grouped};
 ghost use Rattle.unifier.specs.Ranking.{Settled};
 ghost use Rattle.unifier.specs.Diving.{Searched, Opened, Dive, Diving};
-
-// Noughts.
-pub fn clear(rank: &mut [u16])
-    ensures { λ _. ⌜ ((r : ℕ) → getD (now (rank .exit)) r 0 ≡ 0) ⌝ }
-{
-    let mut i = 0;
-    while i < rank.len() {
-        rank[i] = 0;
-        i += 1;
-    }
-}
 
 // The class of the first argument at x that has no rank, or the number of words where each has one.
 fn lacking(words: &[u32], end: &[u16], up: &[u16], rank: &[u16], x: usize) -> usize

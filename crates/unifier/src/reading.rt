@@ -1,22 +1,10 @@
-// Numbers and words read from lent slices; the root of a position's class.
+// What the files of this crate read: arities, numbers past the end of a slice as 0, and the root of a position's class.
+use words::get;
 ghost use mathlib.Core.Path.{_≡_};
 ghost use Prim.Native.Nat.{_<_};
 ghost use lib.ListN.{length, getD};
 ghost use Rattle.words.specs.Word.{arityOf};
 ghost use Rattle.unifier.specs.Classes.{root, Down};
-
-fn wide(x: u16) -> usize
-    ensures { λ r. ⌜ r ≡ x ⌝ }
-{
-    x as usize
-}
-
-pub fn get(xs: &[u16], i: usize) -> usize
-    requires { ⌜ i < length (now xs) ⌝ }
-    ensures { λ r. ⌜ r ≡ getD (now (xs .entry)) i 0 ⌝ }
-{
-    wide(xs[i])
-}
 
 pub fn get_or(xs: &[u16], i: usize) -> usize
     ensures { λ r. ⌜ r ≡ getD (now (xs .entry)) i 0 ⌝ }
@@ -25,13 +13,6 @@ pub fn get_or(xs: &[u16], i: usize) -> usize
         return get(xs, i);
     }
     0
-}
-
-pub fn word(words: &[u32], p: usize) -> u32
-    requires { ⌜ p < length (now words) ⌝ }
-    ensures { λ r. ⌜ r ≡ getD (now (words .entry)) p 0 ⌝ }
-{
-    words[p]
 }
 
 pub fn arity(words: &[u32], p: usize) -> usize

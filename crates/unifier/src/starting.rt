@@ -1,7 +1,7 @@
 // Where terms end, and the first classes: each position alone, but the occurrences of a variable together.
 use crate::reading::arity;
-use crate::reading::get;
-use crate::reading::word;
+use words::get;
+use words::word;
 ghost use mathlib.Core.Path.{_≡_};
 ghost use Prim.Native.Nat.{ℕ, _+_, _<_, _≤_};
 ghost use lib.ListN.{length};

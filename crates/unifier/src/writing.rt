@@ -2,9 +2,9 @@
 use crate::CLASH;
 use crate::reading::arity;
 use crate::reading::find;
-use crate::reading::get;
 use crate::reading::get_or;
-use crate::reading::word;
+use words::get;
+use words::word;
 ghost use mathlib.Core.Path.{_≡_};
 ghost use mathlib.Core.Logic.{_⊎_};
 ghost use mathlib.Core.List.{[], _∷_};

@@ -28,4 +28,4 @@ prepare-spec =
     (λ c. search needs)
     (λ c. search needs)
     (λ c. search needs)
-    (λ c. let q = c .before .before .before .before .before .before .before .before .before .before .before .before .before .before .before .before .before .before .before .before .before .pre in first-trial _ _ _ _ _ _ _ (q .0) (q .1) (c .before .before .before .before .before .before .before .before .before .before .before .before .before .before .ends .kept .1 .0 ∙ q .2) (c .before .before .before .before .before .before .before .before .start .kept .1 .0 ∙ q .3) (c .before .before .before .before .before .before .before .before .start .kept .1 .1 .0 ∙ q .4) (c .before .before .before .before .before .before .before .before .before .before .before .before .before .before .ends .ensures) (c .before .before .before .before .before .before .before .before .start .ensures) (c .get .ensures)))
+    (λ c. let q = c .before .before .before .before .before .before .before .before .before .before .before .before .before .before .before .before .before .before .before .before .before .pre in first-trial _ _ _ _ _ _ _ (q .0) (q .1) (c .before .before .before .before .before .before .before .before .before .before .before .before .before .before .ends .kept .1 .0 ∙ q .2) (c .before .before .before .before .before .before .before .before .start .kept .1 .0 ∙ q .3) (c .before .before .before .before .before .before .before .before .start .kept .1 .1 .0 ∙ q .4) (c .before .before .before .before .before .before .before .before .before .before .before .before .before .before .ends .ensures) (c .before .before .before .before .before .before .before .before .start .ensures) (c .get .ensures .0)))

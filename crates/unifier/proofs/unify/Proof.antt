@@ -135,7 +135,7 @@ unify-spec =
     (λ c κs. omega (arith, right-in _ _ _ _ _ _ _ _ _ _ _ _ _ (c .before .before .before .before .before .before .before .before .before .before .before .before .before .before .before .before .before .before .before .before .before .before .loop .inv) (c .before .before .before .before .before .before .before .before .before .before .before .before .before .before .before .before .before .before .before .before .before .loop-test .taken), c .before .before .before .before .before .before .before .before .before .before .before .before .before .before .before .before .before .before .before .before .before .before .loop .inv .trial .closed .endLength))
     (λ c. search needs)
     (λ c. search needs)
-    (λ c. let h = c .before .before .before .before .before .before .before .before .before .before .before .before .before .before .before .before .before .before .before .before .before .before .before .loop .inv in let a = c .before .before .before .before .before .before .before .before .before .before .before .before .before .before .before .argument in turn _ _ _ _ _ _ _ _ _ _ _ _ _ h (c .before .before .before .before .before .before .before .before .before .before .before .before .before .before .before .before .before .before .before .before .before .before .loop-test .taken) _ _ _ _ _ _ _ _ (a .kept .1 .1 .1 .1 .0) (a .kept .1 .1 .1 .1 .1 .0) (a .kept .1 .1 .1 .1 .1 .1 .0) (c .before .before .before .before .if2 .taken) (a .ensures _ _ _ (h .trial) (h .left-at) (h .right-at)) (c .before .before .get .ensures) (c .get2 .ensures))
+    (λ c. let h = c .before .before .before .before .before .before .before .before .before .before .before .before .before .before .before .before .before .before .before .before .before .before .before .loop .inv in let a = c .before .before .before .before .before .before .before .before .before .before .before .before .before .before .before .argument in turn _ _ _ _ _ _ _ _ _ _ _ _ _ h (c .before .before .before .before .before .before .before .before .before .before .before .before .before .before .before .before .before .before .before .before .before .before .loop-test .taken) _ _ _ _ _ _ _ _ (a .kept .1 .1 .1 .1 .0) (a .kept .1 .1 .1 .1 .1 .0) (a .kept .1 .1 .1 .1 .1 .1 .0) (c .before .before .before .before .if2 .taken) (a .ensures _ _ _ (h .trial) (h .left-at) (h .right-at)) (c .before .before .get .ensures .0) (c .get2 .ensures .0))
     (λ c. search needs)
     (λ c. search needs)
     (λ c. c .before .before .before .before .before .before .before .before .before .before .before .argument .kept .1 .1 .0 ∙ c .before .before .before .before .before .before .before .before .before .before .before .before .before .before .before .before .before .before .before .loop .inv .trial .closed .grouped .upLength ∙ inv (c .before .before .before .before .before .before .before .before .before .before .before .before .before .before .before .before .before .before .before .before .before .before .before .before .before .before .before .before .before .before .before .before .before .before .before .before .before .before .before .before .before .before .before .before .before .pre .2 .ups))

@@ -38,13 +38,13 @@ seek-spec =
     Inv-loop
     μ-loop
     (λ c κs. search needs)
-    (λ c. (flat-refl (c .before .before .before .args .up .now) (c .before .before .before .pre .2), c .before .before .before .pre .0, c .get .ensures, refl))
+    (λ c. (flat-refl (c .before .before .before .args .up .now) (c .before .before .before .pre .2), c .before .before .before .pre .0, c .get .ensures .0, refl))
     (λ c κs. search needs)
-    (λ c. omega (arith, small _ _ _ _ _ (c .before .before .before .loop .inv .0) (c .before .before .before .loop .inv .1) (c .before .before .before .loop .inv .2) (c .before .before .loop-test .taken) (c .get2 .ensures), c .before .before .loop-test .taken, c .before .before .before .loop .inv .1, c .before .before .before .loop .inv .0 .long, c .before .before .before .before .before .before .before .pre .1))
+    (λ c. omega (arith, small _ _ _ _ _ (c .before .before .before .loop .inv .0) (c .before .before .before .loop .inv .1) (c .before .before .before .loop .inv .2) (c .before .before .loop-test .taken) (c .get2 .ensures .0), c .before .before .loop-test .taken, c .before .before .before .loop .inv .1, c .before .before .before .loop .inv .0 .long, c .before .before .before .before .before .before .before .pre .1))
     (λ c. omega (arith, c .before .before .before .loop .inv .1, c .before .before .before .loop .inv .0 .long, c .before .before .before .before .before .before .before .pre .1))
     (λ c. search needs)
-    (λ c κs. simp length-set (omega (arith, small _ _ _ _ _ (c .before .before .before .before .loop .inv .0) (c .before .before .before .before .loop .inv .1) (c .before .before .before .before .loop .inv .2) (c .before .before .before .loop-test .taken) (c .before .get2 .ensures), c .before .before .before .loop-test .taken, c .before .before .before .before .loop .inv .1)))
-    (λ c. omega (arith, small _ _ _ _ _ (c .before .before .before .before .before .loop .inv .0) (c .before .before .before .before .before .loop .inv .1) (c .before .before .before .before .before .loop .inv .2) (c .before .before .before .before .loop-test .taken) (c .before .before .get2 .ensures), c .before .before .before .before .loop-test .taken))
-    (λ c. (flatter _ _ _ _ _ (c .before .before .before .before .before .loop .inv .0) (c .before .before .before .before .before .loop .inv .1) (c .before .before .before .before .before .loop .inv .2) (c .before .before .before .before .loop-test .taken) (c .before .before .get2 .ensures), simp length-set (omega (arith, small _ _ _ _ _ (c .before .before .before .before .before .loop .inv .0) (c .before .before .before .before .before .loop .inv .1) (c .before .before .before .before .before .loop .inv .2) (c .before .before .before .before .loop-test .taken) (c .before .before .get2 .ensures), c .before .before .before .before .loop-test .taken, c .before .before .before .before .before .loop .inv .1)), c .get3 .ensures, onward _ _ _ _ _ (c .before .before .before .before .before .loop .inv .0) (c .before .before .before .before .before .loop .inv .1) (c .before .before .before .before .before .loop .inv .2) (c .before .before .before .before .loop-test .taken) (c .before .before .get2 .ensures) ∙ c .before .before .before .before .before .loop .inv .3))
+    (λ c κs. simp length-set (omega (arith, small _ _ _ _ _ (c .before .before .before .before .loop .inv .0) (c .before .before .before .before .loop .inv .1) (c .before .before .before .before .loop .inv .2) (c .before .before .before .loop-test .taken) (c .before .get2 .ensures .0), c .before .before .before .loop-test .taken, c .before .before .before .before .loop .inv .1)))
+    (λ c. omega (arith, small _ _ _ _ _ (c .before .before .before .before .before .loop .inv .0) (c .before .before .before .before .before .loop .inv .1) (c .before .before .before .before .before .loop .inv .2) (c .before .before .before .before .loop-test .taken) (c .before .before .get2 .ensures .0), c .before .before .before .before .loop-test .taken))
+    (λ c. (flatter _ _ _ _ _ (c .before .before .before .before .before .loop .inv .0) (c .before .before .before .before .before .loop .inv .1) (c .before .before .before .before .before .loop .inv .2) (c .before .before .before .before .loop-test .taken) (c .before .before .get2 .ensures .0), simp length-set (omega (arith, small _ _ _ _ _ (c .before .before .before .before .before .loop .inv .0) (c .before .before .before .before .before .loop .inv .1) (c .before .before .before .before .before .loop .inv .2) (c .before .before .before .before .loop-test .taken) (c .before .before .get2 .ensures .0), c .before .before .before .before .loop-test .taken, c .before .before .before .before .before .loop .inv .1)), c .get3 .ensures .0, onward _ _ _ _ _ (c .before .before .before .before .before .loop .inv .0) (c .before .before .before .before .before .loop .inv .1) (c .before .before .before .before .before .loop .inv .2) (c .before .before .before .before .loop-test .taken) (c .before .before .get2 .ensures .0) ∙ c .before .before .before .before .before .loop .inv .3))
     (λ c. search needs)
     (λ c. let i = c .before .loop .inv in (sym (root-self (c .before .loop .up) (i .0 .down) (c .before .loop .p) (omega (arith, i .2, i .0 .down (c .before .loop .p), c .loop-test .left))) ∙ i .0 .same (c .before .loop .p) ∙ i .3, i .0)))

@@ -30,5 +30,5 @@ visit-spec =
     (λ c. search needs)
     (λ c. search needs)
     (λ c. search needs)
-    (λ c. idle _ _ _ _ _ _ _ _ _ (c .before .before .before .before .before .before .before .before .before .before .before .before .pre) (λ y. omega (arith, c .if2 .left, c .before .get2 .ensures)))
-    (λ c. idle _ _ _ _ _ _ _ _ _ (c .before .before .before .before .before .before .before .before .before .pre) (λ y. absurd (c .if1 .left (c .before .get .ensures ∙ y)))))
+    (λ c. idle _ _ _ _ _ _ _ _ _ (c .before .before .before .before .before .before .before .before .before .before .before .before .pre) (λ y. omega (arith, c .if2 .left, c .before .get2 .ensures .0)))
+    (λ c. idle _ _ _ _ _ _ _ _ _ (c .before .before .before .before .before .before .before .before .before .pre) (λ y. absurd (c .if1 .left (c .before .get .ensures .0 ∙ y)))))

@@ -16,4 +16,4 @@ abbrev μ-loop : tie.MeasureT-loop
 
 pub walk-spec : {M : Type 1} → statement M
 walk-spec =
-    tie.close (tie.spec Inv-loop μ-loop (λ c. search needs) (λ c κs. rw (c .before .loop .inv .1) (c .before .before .before .pre (c .before .loop .i) (c .loop-test .taken))) (λ c. search needs) (λ c. search needs) (λ c. (search needs, rw add-one (c .get .ensures ∙ ap (λ x. getD (c .before .before .before .before .args .end .now) x 0) (c .before .before .loop .inv .1)))) (λ c. c .before .loop .inv .1 ∙ ap (λ x. walkOf (c .before .before .before .args .end .now) x (c .before .before .before .args .from)) (let e : c .before .loop .i ≡ c .before .before .before .args .k = omega arith in e)))
+    tie.close (tie.spec Inv-loop μ-loop (λ c. search needs) (λ c κs. rw (c .before .loop .inv .1) (c .before .before .before .pre (c .before .loop .i) (c .loop-test .taken))) (λ c. search needs) (λ c. search needs) (λ c. (search needs, rw add-one (c .get .ensures .0 ∙ ap (λ x. getD (c .before .before .before .before .args .end .now) x 0) (c .before .before .loop .inv .1)))) (λ c. c .before .loop .inv .1 ∙ ap (λ x. walkOf (c .before .before .before .args .end .now) x (c .before .before .before .args .from)) (let e : c .before .loop .i ≡ c .before .before .before .args .k = omega arith in e)))

@@ -46,6 +46,6 @@ push-spec =
     (λ c κs. omega (arith, c .before .loop .inv .2, c .before .before .before .before .pre .3 (c .before .loop .i) (c .loop-test .taken)))
     (λ c. search needs)
     (λ c. search needs)
-    (λ c. (omega (arith, c .before .loop-test .taken), simp length-set (omega (arith, c .before .before .loop .inv .1)), next (c .before .before .before .before .before .args .end .now) (c .before .before .before .before .before .args .x) (c .before .before .loop .i) _ _ (c .before .before .loop .inv .2) (c .get .ensures), more (c .before .before .before .before .before .args .end .now) (c .before .before .loop .stack) (c .before .before .before .before .before .args .x) (c .before .before .before .before .before .args .base) (c .before .before .before .before .before .args .k) (c .before .before .loop .c) (c .before .before .loop .i) (c .before .loop-test .taken) (omega (arith, c .before .before .before .before .before .pre .0, c .before .before .loop .inv .1)) (c .before .before .loop .inv .2) (c .before .before .loop .inv .3), kept (c .before .before .before .before .before .args .end .now) (c .before .before .loop .stack) (c .before .before .before .before .before .args .x) (c .before .before .before .before .before .args .base) (c .before .before .before .before .before .args .k) (c .before .before .loop .c) (c .before .before .loop .i) (c .before .loop-test .taken) (omega (arith, c .before .before .before .before .before .pre .0, c .before .before .loop .inv .1)) (c .before .before .loop .inv .2) (c .before .before .before .before .before .args .stack .now) (c .before .before .loop .inv .4)))
+    (λ c. (omega (arith, c .before .loop-test .taken), simp length-set (omega (arith, c .before .before .loop .inv .1)), next (c .before .before .before .before .before .args .end .now) (c .before .before .before .before .before .args .x) (c .before .before .loop .i) _ _ (c .before .before .loop .inv .2) (c .get .ensures .0), more (c .before .before .before .before .before .args .end .now) (c .before .before .loop .stack) (c .before .before .before .before .before .args .x) (c .before .before .before .before .before .args .base) (c .before .before .before .before .before .args .k) (c .before .before .loop .c) (c .before .before .loop .i) (c .before .loop-test .taken) (omega (arith, c .before .before .before .before .before .pre .0, c .before .before .loop .inv .1)) (c .before .before .loop .inv .2) (c .before .before .loop .inv .3), kept (c .before .before .before .before .before .args .end .now) (c .before .before .loop .stack) (c .before .before .before .before .before .args .x) (c .before .before .before .before .before .args .base) (c .before .before .before .before .before .args .k) (c .before .before .loop .c) (c .before .before .loop .i) (c .before .loop-test .taken) (omega (arith, c .before .before .before .before .before .pre .0, c .before .before .loop .inv .1)) (c .before .before .loop .inv .2) (c .before .before .before .before .before .args .stack .now) (c .before .before .loop .inv .4)))
     (λ c. search needs)
     (λ c. record { new = λ i h. c .before .loop .inv .3 i (omega (arith, h, c .loop-test .left)); old = c .before .loop .inv .4 }))

@@ -8,8 +8,8 @@ use borrow.Author.Count.{below-more}
 use native.Mathlib.Decide.{decLt}
 use lib.ListN.{List·getD-eq-default}
 use borrow.Author.Needs.{needs}
-use Rattle.numbering.proofs.clear.Statement.{statement}
-use Rattle.numbering.proofs.clear.Tie as tie
+use Rattle.words.proofs.clear.Statement.{statement}
+use Rattle.words.proofs.clear.Tie as tie
 
 more : (l : List ℕ) (i : ℕ) → i < length l → ((j : ℕ) → j < i → getD l j 0 ≡ 0) → (j : ℕ) → j < i + 1 → getD (set l i 0) j 0 ≡ 0
 more l i h p = below-more (λ j. getD (set l i 0) j 0 ≡ 0) i (λ j q. getD-set-other l i j 0 0 (λ z. omega (arith, q, z)) ∙ p j q) (getD-set-same l i 0 0 h)
