@@ -14,59 +14,45 @@ use Rattle.engine.proofs.run.from_bytes.Lts as lts
 use Rattle.engine.proofs.run.answered.Reads as answered-reads
 use Rattle.engine.proofs.run.from_goal.Reads as from-goal-reads
 
--- src/run.rt:113:9
 open-book-requires : tie.Need-open-book-requires
 open-book-requires c κs = search needs
 
--- src/run.rt:114:9
 open-query-requires : tie.Need-open-query-requires
 open-query-requires c κs = search needs
 
--- src/run.rt:115:9
 from-goal-requires : tie.Need-from-goal-requires
 from-goal-requires c κs = let o = c .before .before .before .before .before .before .before .open-query in (omega (arith, o .kept, c .before .before .before .before .before .before .before .before .before .before .before .before .before .before .before .before .before .before .before .before .before .before .before .before .before .before .before .before .before .before .pre .1 .1), omega (arith, o .ensures .1, o .kept, c .before .before .before .before .before .before .before .before .before .before .before .before .before .before .before .before .before .before .before .before .before .before .before .before .before .before .before .before .before .before .pre .1 .1), (bookOf _, c .before .before .before .before .before .before .before .before .before .before .before .before .before .before .before .before .before .open-book .ensures), (goalOf _, o .ensures .0))
 
--- src/run.rt:127:26
 slice-reshare-prefix-put-goal : tie.Need-slice-reshare-prefix-put-goal
 slice-reshare-prefix-put-goal c = c .before .before .from-goal .ensures _ _ (c .before .before .before .before .before .before .before .before .before .before .before .before .before .before .before .before .before .before .before .before .open-book .ensures) (c .before .before .before .before .before .before .before .before .before .before .open-query .ensures .0) .within
 
--- src/run.rt:127:26
 slice-aggregate-put-goal : tie.Need-slice-aggregate-put-goal
 slice-aggregate-put-goal c = inv (length-take-le _ _ (c .before .before .before .from-goal .ensures _ _ (c .before .before .before .before .before .before .before .before .before .before .before .before .before .before .before .before .before .before .before .before .before .open-book .ensures) (c .before .before .before .before .before .before .before .before .before .before .before .open-query .ensures .0) .within))
 
--- src/run.rt:127:9
 put-goal-requires : tie.Need-put-goal-requires
 put-goal-requires c κs = let e = c .before .before .before .before .from-goal .ensures _ _ (c .before .before .before .before .before .before .before .before .before .before .before .before .before .before .before .before .before .before .before .before .before .before .open-book .ensures) (c .before .before .before .before .before .before .before .before .before .before .before .before .open-query .ensures .0) in (c .before .before .before .before .before .before .before .before .before .before .before .before .before .before .before .before .before .before .before .before .before .before .before .before .before .before .before .before .before .before .before .before .before .before .before .pre .0 .enough, (e .last, e .holds))
 
--- src/run.rt:128:5
 answered-requires : tie.Need-answered-requires
 answered-requires c κs = search needs
 
--- src/run.rt:98:1
 same-length : tie.Need-same-length
 same-length c = search needs
 
--- src/run.rt:98:1
 same-length-2 : tie.Need-same-length-2
 same-length-2 c = c .before .before .before .before .before .before .before .before .before .before .before .before .before .before .before .before .before .before .before .before .before .before .before .before .before .before .open-book .kept .1 .0
 
--- src/run.rt:98:1
 same-length-3 : tie.Need-same-length-3
 same-length-3 c = c .before .before .before .before .before .before .before .before .before .before .before .before .before .before .before .before .before .before .before .before .before .before .before .before .before .before .open-book .kept .1 .1 .0
 
--- src/run.rt:98:1
 same-length-4 : tie.Need-same-length-4
 same-length-4 c = c .before .before .before .before .before .before .before .before .before .before .before .before .before .before .before .before .before .before .before .before .before .before .before .before .before .before .open-book .kept .1 .1 .1 .0
 
--- src/run.rt:98:1
 same-length-5 : tie.Need-same-length-5
 same-length-5 c = search needs
 
--- src/run.rt:98:1
 same-length-6 : tie.Need-same-length-6
 same-length-6 c = search needs
 
--- src/run.rt:98:1
 returns : tie.Need-returns
 returns c = let e = c .before .before .before .before .before .before .before .before .from-goal .ensures _ _ (c .before .before .before .before .before .before .before .before .before .before .before .before .before .before .before .before .before .before .before .before .before .before .before .before .before .before .open-book .ensures) (c .before .before .before .before .before .before .before .before .before .before .before .before .before .before .before .before .open-query .ensures .0) in rw (c .answered .ensures) (search-leaves e (c .before .before .before .put-goal .ensures .0 (e .last) (e .holds)))
 

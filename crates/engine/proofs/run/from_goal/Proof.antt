@@ -8,51 +8,39 @@ use Rattle.engine.proofs.run.from_goal.Tie as tie
 use Rattle.engine.proofs.run.from_goal.Reads as reads
 use Rattle.engine.proofs.run.from_goal.Lts as lts
 
--- src/run.rt:83:9
 slice-aggregate-search : tie.Need-slice-aggregate-search
 slice-aggregate-search c = search needs
 
--- src/run.rt:84:9
 slice-aggregate-search-2 : tie.Need-slice-aggregate-search-2
 slice-aggregate-search-2 c = search needs
 
--- src/run.rt:85:9
 slice-aggregate-search-3 : tie.Need-slice-aggregate-search-3
 slice-aggregate-search-3 c = search needs
 
--- src/run.rt:86:9
 slice-aggregate-search-4 : tie.Need-slice-aggregate-search-4
 slice-aggregate-search-4 c = search needs
 
--- src/run.rt:87:9
 slice-aggregate-search-5 : tie.Need-slice-aggregate-search-5
 slice-aggregate-search-5 c = search needs
 
--- src/run.rt:88:9
 slice-aggregate-search-6 : tie.Need-slice-aggregate-search-6
 slice-aggregate-search-6 c = search needs
 
--- src/run.rt:89:9
 slice-aggregate-search-7 : tie.Need-slice-aggregate-search-7
 slice-aggregate-search-7 c = search needs
 
--- src/run.rt:90:9
 slice-aggregate-search-8 : tie.Need-slice-aggregate-search-8
 slice-aggregate-search-8 c = search needs
 
--- src/run.rt:91:9
 slice-aggregate-search-9 : tie.Need-slice-aggregate-search-9
 slice-aggregate-search-9 c = search needs
 
--- src/run.rt:92:9
 slice-aggregate-search-10 : tie.Need-slice-aggregate-search-10
 slice-aggregate-search-10 c = search needs
 
--- src/run.rt:93:9
 slice-aggregate-search-11 : tie.Need-slice-aggregate-search-11
 slice-aggregate-search-11 c = search needs
 
--- src/run.rt:73:5
 search-requires : tie.Need-search-requires
 search-requires c κs = let p = c .before .before .before .before .before .before .before .before .before .before .before .before .before .before .before .before .before .pre in (
   record {
@@ -70,11 +58,9 @@ search-requires c κs = let p = c .before .before .before .before .before .befor
   (record { goalRoom = p .0; savedRoom = omega (arith, length-replicate {A = ℕ} 4096 0) }, (p .1, p .2, p .3)),
 )
 
--- src/run.rt:48:1
 same-length : tie.Need-same-length
 same-length c = search needs
 
--- src/run.rt:48:1
 returns : tie.Need-returns
 returns c = search needs
 

@@ -11,51 +11,39 @@ use Rattle.engine.proofs.step.from_bytes.Reads as reads
 use Rattle.engine.proofs.step.from_bytes.Lts as lts
 use Rattle.engine.proofs.step.from_goal.Reads as from-goal-reads
 
--- src/step.rt:184:9
 open-book-requires : tie.Need-open-book-requires
 open-book-requires c κs = search needs
 
--- src/step.rt:185:9
 open-query-requires : tie.Need-open-query-requires
 open-query-requires c κs = search needs
 
--- src/step.rt:193:9
 slice-reshare-prefix-from-goal : tie.Need-slice-reshare-prefix-from-goal
 slice-reshare-prefix-from-goal c = search needs
 
--- src/step.rt:193:9
 slice-aggregate-from-goal : tie.Need-slice-aggregate-from-goal
 slice-aggregate-from-goal c = inv (length-take-le _ _ (omega (arith, c .before .before .before .before .before .before .before .open-query .ensures .1, c .before .before .before .before .before .before .before .open-query .kept)))
 
--- src/step.rt:187:5
 from-goal-requires : tie.Need-from-goal-requires
 from-goal-requires c κs = (c .before .before .before .before .before .before .before .before .before .before .before .before .before .before .before .before .before .before .before .before .before .before .before .before .before .before .before .before .before .before .before .pre .0 .enough, (bookOf _, c .before .before .before .before .before .before .before .before .before .before .before .before .before .before .before .before .before .before .open-book .ensures), (goalOf _, c .before .before .before .before .before .before .before .before .open-query .ensures .0))
 
--- src/step.rt:170:1
 same-length : tie.Need-same-length
 same-length c = search needs
 
--- src/step.rt:170:1
 same-length-2 : tie.Need-same-length-2
 same-length-2 c = search needs
 
--- src/step.rt:170:1
 same-length-3 : tie.Need-same-length-3
 same-length-3 c = search needs
 
--- src/step.rt:170:1
 same-length-4 : tie.Need-same-length-4
 same-length-4 c = search needs
 
--- src/step.rt:170:1
 same-length-5 : tie.Need-same-length-5
 same-length-5 c = search needs
 
--- src/step.rt:170:1
 same-length-6 : tie.Need-same-length-6
 same-length-6 c = search needs
 
--- src/step.rt:170:1
 returns : tie.Need-returns
 returns c = c .before .before .from-goal .ensures _ _ (c .before .before .before .before .before .before .before .before .before .before .before .before .before .before .before .before .before .before .before .before .before .open-book .ensures) (c .before .before .before .before .before .before .before .before .before .before .before .open-query .ensures .0)
 

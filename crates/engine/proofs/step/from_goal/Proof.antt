@@ -9,55 +9,42 @@ use Rattle.engine.proofs.step.from_goal.Lts as lts
 use Rattle.engine.proofs.step.from_formula.Reads as from-formula-reads
 use Rattle.engine.proofs.step.no_step.Reads as no-step-reads
 
--- src/step.rt:135:9
 no-step-requires : tie.Need-no-step-requires
 no-step-requires c κs = search needs
 
--- src/step.rt:135:9
 returns : tie.Need-returns
 returns c = at-empty _ (c .before .if1 .taken) (c .no-step .ensures)
 
--- src/step.rt:156:9
 slice-aggregate-from-formula : tie.Need-slice-aggregate-from-formula
 slice-aggregate-from-formula c = search needs
 
--- src/step.rt:157:9
 slice-aggregate-from-formula-2 : tie.Need-slice-aggregate-from-formula-2
 slice-aggregate-from-formula-2 c = search needs
 
--- src/step.rt:158:9
 slice-aggregate-from-formula-3 : tie.Need-slice-aggregate-from-formula-3
 slice-aggregate-from-formula-3 c = search needs
 
--- src/step.rt:159:9
 slice-aggregate-from-formula-4 : tie.Need-slice-aggregate-from-formula-4
 slice-aggregate-from-formula-4 c = search needs
 
--- src/step.rt:160:9
 slice-aggregate-from-formula-5 : tie.Need-slice-aggregate-from-formula-5
 slice-aggregate-from-formula-5 c = search needs
 
--- src/step.rt:161:9
 slice-aggregate-from-formula-6 : tie.Need-slice-aggregate-from-formula-6
 slice-aggregate-from-formula-6 c = search needs
 
--- src/step.rt:162:9
 slice-aggregate-from-formula-7 : tie.Need-slice-aggregate-from-formula-7
 slice-aggregate-from-formula-7 c = search needs
 
--- src/step.rt:163:9
 slice-aggregate-from-formula-8 : tie.Need-slice-aggregate-from-formula-8
 slice-aggregate-from-formula-8 c = search needs
 
--- src/step.rt:164:9
 slice-aggregate-from-formula-9 : tie.Need-slice-aggregate-from-formula-9
 slice-aggregate-from-formula-9 c = search needs
 
--- src/step.rt:165:9
 slice-aggregate-from-formula-10 : tie.Need-slice-aggregate-from-formula-10
 slice-aggregate-from-formula-10 c = search needs
 
--- src/step.rt:147:5
 from-formula-requires : tie.Need-from-formula-requires
 from-formula-requires c κs = let p = c .before .before .before .before .before .before .before .before .before .before .before .before .before .before .before .before .before .before .pre in (
   record {
@@ -75,11 +62,9 @@ from-formula-requires c κs = let p = c .before .before .before .before .before 
   (search needs, p .1, some-formula (c .before .before .before .before .before .before .before .before .before .before .before .if1 .left) (p .2)),
 )
 
--- src/step.rt:121:1
 same-length : tie.Need-same-length
 same-length c = search needs
 
--- src/step.rt:121:1
 returns-2 : tie.Need-returns-2
 returns-2 c = at-formula _ (c .before .before .before .before .before .before .before .before .before .before .before .before .before .before .before .before .before .before .before .before .before .before .before .before .if1 .left) (c .before .before .before .before .before .before .before .before .before .before .before .before .from-formula .ensures)
 
