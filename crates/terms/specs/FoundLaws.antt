@@ -9,7 +9,7 @@ use lib.ListN.{take, drop}
 use lib.Dec.{eqb}
 use Rattle.terms.specs.Node.{Symbol, var, sym, Expr, same-symbol}
 use Rattle.terms.specs.Row.{span}
-use Rattle.terms.specs.Subst.{In, in?, Subst, apply, after, itself, only}
+use Rattle.terms.specs.Subst.{In, in?, Subst, apply, itself, only}
 use Rattle.terms.specs.Substitution.{Symbols}
 use Rattle.terms.specs.Unify.{Answer, then-after, bind, against, sweep, unify-by, sweeps, unify}
 use Rattle.terms.specs.Cases.{cases, decided}

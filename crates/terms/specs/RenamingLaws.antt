@@ -1,5 +1,5 @@
 -- Variants are renamed copies in document 000's sense: a permutation of finitely many variables takes the one to the other.
-use Prim.Native.Nat.{ℕ, suc, _≤_, max}
+use Prim.Native.Nat.{ℕ, suc, max}
 use native.Mathlib.Omega.{arith}
 use mathlib.Core.Path.{_≡_, refl, sym as inv, ap, _∙_}
 use mathlib.Core.Logic.{_⊎_, inl, inr, _↔_}
