@@ -56,8 +56,8 @@ in-above-all : (v : ℕ) (g : List Expr) → In-any v g → v < above-all g
 in-above-all v (f ∷ g) (inl i) = omega (arith, in-above v f i)
 in-above-all v (f ∷ g) (inr i) = omega (arith, in-above-all v g i)
 
-fresh : (g h : List Expr) → (ρ : ℕ → ℕ) × Standard ρ g h
-fresh g h =
+standard-names : (g h : List Expr) → (ρ : ℕ → ℕ) × Standard ρ g h
+standard-names g h =
     let n = above-all g in
     let p = permuted (λ v. n + v) h (λ v w i j e. omega arith) in
     (p .0, record { renaming = p .1; apart = λ v w i j e. omega (arith, in-above-all v g i, p .2 w j) })
@@ -84,7 +84,7 @@ module _ (f : Expr) (af : Atomic f) (c : Clause) (ac : Atomic (c .head)) where
       unifies = (λ v. u .unifier .substitution .terms v .0, ap (apply (u .substitution)) (rename-itself f) ∙ u .unifier .equal);
     },
     λ m.
-        let n = fresh (f ∷ []) (c .head ∷ []) in
+        let n = standard-names (f ∷ []) (c .head ∷ []) in
         let s = unifier-iff (narrow-heads (n .0)) .1 (unifies-here [] [] (n .0) (n .1) (m .goal-names) (m .clause-names) (m .unifier) (m .unifies)) in
         record { names = n .0; standard = n .1; substitution = s .0; unifier = s .1 },
   )
@@ -105,7 +105,7 @@ module _ (f : Expr) (af : Atomic f) (c : Clause) (ac : Atomic (c .head)) where
   resolved-resolvent g h r = subst (Resolvent f g c) (resolved-one f g c here h (resolvent-resolved g here new) r) new
     where
       n : (ρ : ℕ → ℕ) × Standard ρ (f ∷ g) (c .head ∷ c .body)
-      n = fresh (f ∷ g) (c .head ∷ c .body)
+      n = standard-names (f ∷ g) (c .head ∷ c .body)
 
       u : (σ : Subst) × Unifies σ f (rename (n .0) (c .head))
       u = unifies-here g (c .body) (n .0) (n .1) (r .goal-names) (r .clause-names) (r .unifier) (r .general .unifies)

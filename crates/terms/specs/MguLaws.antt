@@ -45,36 +45,36 @@ functions? (var v ∷ e) = functions? e
 functions? (sym s ∷ e) = Dec·and (function? s) (functions? e)
 
 -- γ where it has a term, and the identity elsewhere
-abbrev choose : (γ : Subst) (v : ℕ) → Dec (Symbols Function (γ v)) → Expr
-choose γ v (yes p) = γ v
-choose γ v (no p) = itself v
+abbrev tidy : (γ : Subst) (v : ℕ) → Dec (Symbols Function (γ v)) → Expr
+tidy γ v (yes p) = γ v
+tidy γ v (no p) = itself v
 
-choose-same : (γ : Subst) (v : ℕ) (d : Dec (Symbols Function (γ v))) → Symbols Function (γ v) → choose γ v d ≡ γ v
-choose-same γ v (yes p) q = refl
-choose-same γ v (no p) q = absurd (p q)
+tidy-same : (γ : Subst) (v : ℕ) (d : Dec (Symbols Function (γ v))) → Symbols Function (γ v) → tidy γ v d ≡ γ v
+tidy-same γ v (yes p) q = refl
+tidy-same γ v (no p) q = absurd (p q)
 
-choose-term : (γ : Subst) → Proper γ → (v : ℕ) (d : Dec (Symbols Function (γ v))) → Term (choose γ v d)
-choose-term γ ok v (yes p) = (ok v, p)
-choose-term γ ok v (no p) = (row-var row-end, tt)
+tidy-term : (γ : Subst) → Proper γ → (v : ℕ) (d : Dec (Symbols Function (γ v))) → Term (tidy γ v d)
+tidy-term γ ok v (yes p) = (ok v, p)
+tidy-term γ ok v (no p) = (row-var row-end, tt)
 
-choose-idle : (γ : Subst) (v : ℕ) (d : Dec (Symbols Function (γ v))) → γ v ≡ itself v → choose γ v d ≡ itself v
-choose-idle γ v (yes p) e = e
-choose-idle γ v (no p) e = refl
+tidy-idle : (γ : Subst) (v : ℕ) (d : Dec (Symbols Function (γ v))) → γ v ≡ itself v → tidy γ v d ≡ itself v
+tidy-idle γ v (yes p) e = e
+tidy-idle γ v (no p) e = refl
 
 -- an instance, by whatever, of one of document 000's substitutions that is one itself is so by one
-narrow : (σ θ γ : Subst) → Substitution σ → Substitution θ → Proper γ → ((v : ℕ) → θ v ≡ apply γ (σ v)) → More-general σ θ
-narrow σ θ γ s t ok same = (
+by-tidy : (σ θ γ : Subst) → Substitution σ → Substitution θ → Proper γ → ((v : ℕ) → θ v ≡ apply γ (σ v)) → More-general σ θ
+by-tidy σ θ γ s t ok same = (
   δ,
   record {
-    terms = λ v. choose-term γ ok v (functions? (γ v));
+    terms = λ v. tidy-term γ ok v (functions? (γ v));
     bound = max (s .bound) (t .bound);
-    finite = λ v l. choose-idle γ v (functions? (γ v)) (idle v l);
+    finite = λ v l. tidy-idle γ v (functions? (γ v)) (idle v l);
   },
-  λ v. same v ∙ apply-on γ δ (σ v) (λ w i. inv (choose-same γ w (functions? (γ w)) (symbols-value Function γ w (σ v) i (subst (Symbols Function) (same v) (t .terms v .1))))),
+  λ v. same v ∙ apply-on γ δ (σ v) (λ w i. inv (tidy-same γ w (functions? (γ w)) (symbols-value Function γ w (σ v) i (subst (Symbols Function) (same v) (t .terms v .1))))),
 )
   where
     δ : Subst
-    δ v = choose γ v (functions? (γ v))
+    δ v = tidy γ v (functions? (γ v))
 
     idle : (v : ℕ) → max (s .bound) (t .bound) ≤ v → γ v ≡ itself v
     idle v l = inv (append-nil (γ v)) ∙ ap (apply γ) (inv (s .finite v (omega arith))) ∙ inv (same v) ∙ t .finite v (omega arith)
@@ -132,7 +132,7 @@ module _ {a b : Expr} (n : Narrow a b) where
     λ m. (m .unifier .substitution, mgu-general σ m),
     λ g. record {
       unifier = record { substitution = g .0; equal = g .1 .unifies .1 };
-      general = λ θ u. let i = g .1 .general θ (unifier-unifies θ u) in narrow σ θ (i .0) (g .0) (u .substitution) (i .1) (i .2);
+      general = λ θ u. let i = g .1 .general θ (unifier-unifies θ u) in by-tidy σ θ (i .0) (g .0) (u .substitution) (i .1) (i .2);
     },
   )
 
