@@ -64,8 +64,8 @@ module _ {F : Type 0} (next : List F → Option (List F)) (laws : Successor next
   Seen l t n = (x : F) → Leads x → Listed x l ⊎ Ancestor x t n
 
   -- what becomes of a leftmost formula, by the formulas of l that may still come
-  abbrev Followed : List F → Type 0
-  Followed l = (t : ℕ) (a : F) (g : List F) → path next t q ≡ some (a ∷ g) → Seen l t (length g) → Fate t (length g)
+  abbrev Worked-off : List F → Type 0
+  Worked-off l = (t : ℕ) (a : F) (g : List F) → path next t q ≡ some (a ∷ g) → Seen l t (length g) → Fate t (length g)
 
   -- a formula that comes back below itself is cyclic
   below-itself : (x : F) (g : List F) (t : ℕ) → path next t q ≡ some (x ∷ g) → Ancestor x t (length g) → Passes next q (Primitive-cyclic next)
@@ -85,7 +85,7 @@ module _ {F : Type 0} (next : List F → Option (List F)) (laws : Successor next
           formula-cyclic next x g (h .0) (d .0) (t - m) (omega (arith, a .earlier)) (h .1) (d .1) (omega (arith, d .2, a .short))
 
   -- a goal taken down to `floor` formulas, one formula after the other
-  clear : (l : List F) → Followed l → (floor b start : ℕ) → ((t n : ℕ) → start ≤ t → floor ≤ n → Above floor b t → Seen l t n)
+  clear : (l : List F) → Worked-off l → (floor b start : ℕ) → ((t n : ℕ) → start ≤ t → floor ≤ n → Above floor b t → Seen l t n)
       → (n t : ℕ) (h : List F) → b ≤ start → start ≤ t → path next t q ≡ some h → length h ≡ floor + n → Above floor b t → Fate b floor
   clear l follow floor b start seen zero t h v w e c above = down t h (omega arith) e (omega arith) above
   clear l follow floor b start seen (suc n) t [] v w e c above = absurd (omega arith)
@@ -120,7 +120,7 @@ module _ {F : Type 0} (next : List F → Option (List F)) (laws : Successor next
           | inr y ↦ inr (still x u n b c above y)
         ]
 
-    onward : Followed (r .left) → (o : Option (List F)) → next (a ∷ g) ≡ o → Fate t (length g)
+    onward : Worked-off (r .left) → (o : Option (List F)) → next (a ∷ g) ≡ o → Fate t (length g)
     onward follow none d = ends t (a ∷ g) e d
     onward follow (some h) d =
         let b = front-next next laws (a ∷ []) g h (omega arith) d in
@@ -131,7 +131,7 @@ module _ {F : Type 0} (next : List F → Option (List F)) (laws : Successor next
         (λ j i x y z. let o : j ≡ t = omega arith in let s : i ≡ a ∷ g = cc in omega (arith, ap length s))
 
   -- by how many formulas the list has at most
-  fate : (k : ℕ) (l : List F) → length l ≤ k → Followed l
+  fate : (k : ℕ) (l : List F) → length l ≤ k → Worked-off l
   fate zero l c t a g e seen = elim (seen a (t, g, e)) [ inl m ↦ absurd (omega (arith, c, without a l m .fewer)) | inr x ↦ circle (below-itself a g t e x) ]
   fate (suc k) l c t a g e seen =
       elim (seen a (t, g, e)) [
