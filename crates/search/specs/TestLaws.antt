@@ -5,7 +5,7 @@ use native.Mathlib.Omega.{arith}
 use mathlib.Core.Path.{_≡_, refl, sym as inv, ap, _∙_, subst}
 use mathlib.Core.Logic.{_↔_, inl, inr}
 use mathlib.Core.Bool.{Bool, true, false, _||_, true≢false}
-use mathlib.Core.Option.{some}
+use mathlib.Core.Option.{Option, some}
 use mathlib.Core.List.{[], _∷_}
 use lib.Dec.{ltb}
 use lib.ListN.{length}
@@ -63,9 +63,12 @@ saves-iff s = (λ e. either (scheduled (s .step)) (ltb (length (s .goal)) (s .le
     back (inl p) = ap (λ a. a || ltb (length (s .goal)) (s .least)) (scheduled-iff (s .step) .1 p)
     back (inr l) = or-right (scheduled (s .step)) (ltb (length (s .goal)) (s .least)) (lt-ltb (length (s .goal)) (s .least) l)
 
--- the state after s
+-- the state after s, where it saves the formula o
+abbrev saving-as : State Expr → Goal → Option Expr → State Expr
+saving-as s h o = record { step = suc (s .step); least = length (s .goal); saved = o; from = s .step; goal = h }
+
 pub after-is : (s : State Expr) (h : Goal) (s′ : State Expr) → After s h s′ → s′ ≡ move (saves s) s h
-after-is s h s′ (save f g p e) = ap (λ (o : _). record { step = suc (s .step); least = length (s .goal); saved = o; from = s .step; goal = h }) (inv (ap leftmost e)) ∙ ap (λ b. move b s h) (inv (saves-iff s .1 p))
+after-is s h s′ (save f g p e) = ap (saving-as s h) (inv (ap leftmost e)) ∙ ap (λ b. move b s h) (inv (saves-iff s .1 p))
 after-is s h s′ (keep n) = ap (λ b. move b s h) (inv (cases (saves s) (λ e. absurd (n (saves-iff s .0 e))) (λ e. e)))
 
 pub move-after : (s : State Expr) (h : Goal) → ¬ (s .goal ≡ []) → After s h (move (saves s) s h)
@@ -73,7 +76,7 @@ move-after s h n = cases (saves s) (λ e. rw e (saved (s .goal) refl e)) (λ e. 
   where
     saved : (g : Goal) → s .goal ≡ g → saves s ≡ true → After s h (move true s h)
     saved [] d e = absurd (n d)
-    saved (f ∷ g) d e = subst (λ (o : _). After s h (record { step = suc (s .step); least = length (s .goal); saved = o; from = s .step; goal = h })) (inv (ap leftmost d)) (save f g (saves-iff s .0 e) d)
+    saved (f ∷ g) d e = subst (λ o. After s h (saving-as s h o)) (inv (ap leftmost d)) (save f g (saves-iff s .0 e) d)
 
 pub move-goal : (b : Bool) (s : State Expr) (h : Goal) → (move b s h) .goal ≡ h
 move-goal true s h = refl

@@ -21,6 +21,7 @@ use Rattle.search.specs.PathLaws.{path-formulas, path-next}
 use Rattle.search.specs.TestLaws.{detected-iff, after-is, move-after, move-goal, big-iff}
 use Rattle.search.specs.Told.{Comes-back, After, Too-big, Closing, at-20, at-21, at-22, at-23, at-24, Reached, first, then, Told}
 
+-- For a book and a query of formulas, the query numbered, as checked ones are.
 module _ (P : Book) (good : Clauses P) (q : Goal) (formulas : Formulas q) (numbered : Numbered q) where
   -- what a verdict on a state says, in document 01's words
   abbrev Turn : State Expr → Verdict Expr → Type 0
