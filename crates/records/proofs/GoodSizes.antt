@@ -1,0 +1,143 @@
+-- Books and goals that keep their sizes are those whose records all do.
+use Prim.Native.Nat.{ℕ, _+_, _-_, _≤_, _<_, zero-le}
+use native.Mathlib.Omega.{arith}
+use borrow.Author.Tests.{ltb-true, lt-ltb}
+use mathlib.Core.Path.{_≡_, refl, sym as inv, ap, subst, _∙_}
+use mathlib.Core.List.{List, [], _∷_, _++_, append-nil}
+use lib.ListN.{length}
+use lib.Dec.{ltb}
+use Rattle.terms.specs.Node.{constant, compound, predicate, Node, var, sym, Expr}
+use Rattle.search.specs.Next as Next
+use Rattle.search.specs.Room.{nodes}
+use Rattle.words.specs.Flat.{flat, flat-size}
+use Rattle.records.specs.declared.state.State.{State}
+use Rattle.records.specs.declared.state.Form.{Form}
+use Rattle.records.specs.declared.state.Form.the-variants.{Book, Query}
+use Rattle.records.specs.declared.record.Record.{Record}
+use Rattle.records.specs.declared.record.Record.the-variants.{Clause, Goal}
+use Rattle.records.specs.Reading.{nodeLimit, variableLimit, inSize, after, start}
+use Rattle.records.specs.Format.{nodeRecord, nodeRecords, Below, bookRecords, GoodClauses, goalRecords, GoodGoal}
+use Rattle.records.specs.Faulty.{Formed, FormedClauses}
+use Rattle.records.proofs.Tests.{and-both}
+use Rattle.records.proofs.Beginnings.{reach, reach-append}
+use Rattle.records.proofs.Sizes.{Sized}
+
+-- Nodes
+
+-- what a node changes
+record Counts (state next : State) (n : ℕ) : Type 0 where
+  nodes : next .nodes ≡ state .nodes + n
+  clauses : next .clauses ≡ state .clauses
+
+counts-node : (state : State) (x : Node) → Counts state (after state (nodeRecord x)) 1
+unfolding after
+counts-node state (var v) = record { nodes = refl; clauses = refl }
+counts-node state (sym (constant c)) = record { nodes = refl; clauses = refl }
+counts-node state (sym (compound f n)) = record { nodes = refl; clauses = refl }
+counts-node state (sym (predicate p n)) = record { nodes = refl; clauses = refl }
+
+counts-nodes : (state : State) (e : Expr) → Counts state (reach state (nodeRecords e)) (length e)
+counts-nodes state [] = record { nodes = omega arith; clauses = refl }
+counts-nodes state (x ∷ e) =
+    let a = counts-node state x in
+    let b = counts-nodes (after state (nodeRecord x)) e in
+    record { nodes = omega (arith, a .nodes, b .nodes); clauses = b .clauses ∙ a .clauses }
+
+-- nodes that keep the sizes, and then other records that do
+record Kept (form : Form) (state : State) (e : Expr) (tail : List Record) : Type 0 where
+  size : length e ≤ nodeLimit form - state .nodes
+  below : Below (variableLimit form) e
+  later : Sized form (reach state (nodeRecords e)) tail
+
+module _ (form : Form) (tail : List Record) where
+  kept-more : (state : State) (x : Node) (e : Expr) → state .nodes < nodeLimit form → Below (variableLimit form) (x ∷ []) → Kept form (after state (nodeRecord x)) e tail → Kept form state (x ∷ e) tail
+  kept-more state x e l b k = record { size = omega (arith, k .size, counts-node state x .nodes); below = together x b; later = k .later }
+    where
+      together : (y : Node) → Below (variableLimit form) (y ∷ []) → Below (variableLimit form) (y ∷ e)
+      together (var v) b = (b .0, k .below)
+      together (sym s) b = k .below
+
+  kept : (state : State) (e : Expr) → Sized form state (nodeRecords e ++ tail) → Kept form state e tail
+  unfolding inSize
+  kept state [] s = record { size = zero-le; below = tt; later = s }
+  kept state (var v ∷ e) s =
+      let z = and-both (ltb (state .nodes) (nodeLimit form)) (ltb v (variableLimit form)) (s .0) in
+      kept-more state (var v) e (ltb-true (state .nodes) (nodeLimit form) (z .0)) (ltb-true v (variableLimit form) (z .1), tt) (kept _ e (s .1))
+  kept state (sym (constant c) ∷ e) s = kept-more state (sym (constant c)) e (ltb-true (state .nodes) (nodeLimit form) (s .0)) tt (kept _ e (s .1))
+  kept state (sym (compound f n) ∷ e) s = kept-more state (sym (compound f n)) e (ltb-true (state .nodes) (nodeLimit form) (s .0)) tt (kept _ e (s .1))
+  kept state (sym (predicate p n) ∷ e) s = kept-more state (sym (predicate p n)) e (ltb-true (state .nodes) (nodeLimit form) (s .0)) tt (kept _ e (s .1))
+
+  kept-less : (state : State) (x : Node) (e : Expr) → Below (variableLimit form) e → Kept form state (x ∷ e) tail → Kept form (after state (nodeRecord x)) e tail
+  kept-less state x e b k = record { size = omega (arith, k .size, counts-node state x .nodes); below = b; later = k .later }
+
+  kept-back : (state : State) (e : Expr) → Kept form state e tail → Sized form state (nodeRecords e ++ tail)
+  unfolding inSize
+  kept-back state [] k = k .later
+  kept-back state (var v ∷ e) k =
+      (simp (lt-ltb (state .nodes) (nodeLimit form) (omega (arith, k .size)), lt-ltb v (variableLimit form) (k .below .0)), kept-back _ e (kept-less state (var v) e (k .below .1) k))
+  kept-back state (sym (constant c) ∷ e) k = (lt-ltb (state .nodes) (nodeLimit form) (omega (arith, k .size)), kept-back _ e (kept-less state (sym (constant c)) e (k .below) k))
+  kept-back state (sym (compound f n) ∷ e) k = (lt-ltb (state .nodes) (nodeLimit form) (omega (arith, k .size)), kept-back _ e (kept-less state (sym (compound f n)) e (k .below) k))
+  kept-back state (sym (predicate p n) ∷ e) k = (lt-ltb (state .nodes) (nodeLimit form) (omega (arith, k .size)), kept-back _ e (kept-less state (sym (predicate p n)) e (k .below) k))
+
+-- Books
+
+-- good clauses, from a state on, and how many they are
+pub record Held (state : State) (b : Next.Book) : Type 0 where
+  pub good : GoodClauses b
+  pub few : length b ≤ 512 - state .clauses
+  pub count : reach state (bookRecords b) .clauses ≡ state .clauses + length b
+
+pub clauses-held : (b : Next.Book) (state : State) → FormedClauses b → Sized Book state (bookRecords b) → Held state b
+unfolding inSize after
+clauses-held [] state f s = record { good = tt; few = zero-le; count = omega arith }
+clauses-held (c ∷ b) state f s =
+    let g = c .head ∷ c .body in
+    let opened = after state (Clause (length (c .body))) in
+    let k = kept Book (bookRecords b) opened (flat g) (s .1) in
+    let h = clauses-held b (reach opened (nodeRecords (flat g))) (f .1) (k .later) in
+    let q = counts-nodes opened (flat g) in
+    let few = f .0 .few in
+    let l = ltb-true (state .clauses) 512 (s .0) in
+    let r : reach state (bookRecords (c ∷ b)) ≡ reach (reach opened (nodeRecords (flat g))) (bookRecords b) = reach-append opened (nodeRecords (flat g)) (bookRecords b) in
+    record {
+      good = (record { few = omega arith; formulas = f .0 .formulas; fitting = record { size = omega (arith, k .size, flat-size g); below = k .below; numbered = f .0 .numbered } }, h .good);
+      few = omega (arith, h .few, q .clauses);
+      count = ap (λ (x : State). x .clauses) r ∙ omega (arith, h .count, q .clauses);
+    }
+
+pub clauses-formed : (b : Next.Book) → GoodClauses b → FormedClauses b
+clauses-formed [] g = tt
+clauses-formed (c ∷ b) g = let few = g .0 .few in (record { few = omega arith; formulas = g .0 .formulas; numbered = g .0 .fitting .numbered }, clauses-formed b (g .1))
+
+pub clauses-sized : (b : Next.Book) (state : State) → GoodClauses b → length b ≤ 512 - state .clauses → Sized Book state (bookRecords b)
+unfolding inSize after
+clauses-sized [] state g l = (refl, tt)
+clauses-sized (c ∷ b) state g l =
+    let f = c .head ∷ c .body in
+    let opened = after state (Clause (length (c .body))) in
+    let q = counts-nodes opened (flat f) in
+    let fit = g .0 .fitting in (
+      lt-ltb (state .clauses) 512 (omega arith),
+      kept-back Book (bookRecords b) opened (flat f)
+          (record { size = omega (arith, fit .size, flat-size f); below = fit .below; later = clauses-sized b (reach opened (nodeRecords (flat f))) (g .1) (omega (arith, q .clauses)) }),
+    )
+
+-- Goals
+
+pub goal-count : (g : Next.Goal) → reach start (goalRecords g) .nodes ≡ nodes g
+unfolding after
+goal-count g = omega (arith, counts-nodes (after start (Goal (length g))) (flat g) .nodes, flat-size g)
+
+pub goal-held : (g : Next.Goal) → Formed 512 g → Sized Query start (goalRecords g) → GoodGoal g
+unfolding after
+goal-held g f s =
+    let opened = after start (Goal (length g)) in
+    let k = kept Query [] opened (flat g) (subst (Sized Query opened) (inv (append-nil (nodeRecords (flat g)))) (s .1)) in
+    record { few = f .few; formulas = f .formulas; fitting = record { size = omega (arith, k .size, flat-size g); below = k .below; numbered = f .numbered } }
+
+pub goal-sized : (g : Next.Goal) → GoodGoal g → Sized Query start (goalRecords g)
+unfolding inSize after
+goal-sized g good =
+    let opened = after start (Goal (length g)) in
+    let fit = good .fitting in
+    (refl, subst (Sized Query opened) (append-nil (nodeRecords (flat g))) (kept-back Query [] opened (flat g) (record { size = omega (arith, fit .size, flat-size g); below = fit .below; later = tt })))
