@@ -25,7 +25,7 @@ use Rattle.records.proofs.Tests.{zero-one}
 use Rattle.records.proofs.Going.{walk-next, walk-bad, walk-end, Going, going-start, going-next, going-bad, going-end}
 use Rattle.records.proofs.Items.{decode, allowed-is, allowed-kinded}
 use Rattle.records.proofs.Taken.{TakenAt, taken}
-use Rattle.records.proofs.Owed.{Fits}
+use Rattle.records.proofs.Owed.{MayStand}
 use Rattle.records.proofs.Encoded.{encoded}
 use Rattle.records.proofs.Tested.{passed, Looked, looked-is, looked}
 use Rattle.records.proofs.Beginnings.{reach, reach-append, Reads, reads-back, beginning-reads, complete-whole}
@@ -66,7 +66,7 @@ pub record Accepted (form : Form) (s : List ℕ) (answer : Check) : Type 0 where
   pub sized : Sized form start items
   pub finished : whole (reach start items) ≡ true
   pub image : s ≡ encode items
-  pub short : length s ≤ byteLimit form
+  pub short : length s ≤ pair form 32768 16387
   pub count : answer ≡ record { code = 0; place = 0; count = countOf form (reach start items) }
 
 -- a fault's code is not 0
@@ -89,10 +89,10 @@ record Standing (form : Form) (s : List ℕ) (at : ℕ) : Type 0 where
   offset : at ≡ length (encode rs)
   bytes : s ≡ encode rs ++ drop at s
 
-module _ (form : Form) (s : List ℕ) (bytes : Bytes s) (short : length s ≤ byteLimit form) where
+module _ (form : Form) (s : List ℕ) (bytes : Bytes s) (short : length s ≤ pair form 32768 16387) where
   faulty-here : (at : ℕ) (fault : Fault) (h : Standing form s at) → Fails form (h .rs) (drop at s) (codes form fault) → Refused form s (refused form fault at)
   faulty-here at fault h x = (
-    at-place (rw (← byte-limit form) short)
+    at-place short
         (record { before = h .rs; rest = drop at s; bytes = h .bytes; offset = h .offset; begins = beginning-reads form (h .rs) .1 (h .reads); sizes = sizes-iff form (h .rs) (h .reads) .1 (h .sized) })
         (subst (Fails form (h .rs) (drop at s)) (inv (fault-code form fault)) x),
     refl,
@@ -117,7 +117,7 @@ module _ (form : Form) (s : List ℕ) (bytes : Bytes s) (short : length s ≤ by
       let r = recordAt s at k in
       let state = reach start (h .rs) in
       let d = decode s bytes at k (allowed-kinded form state k (allowed-is form state k (t .kind))) refl (t .body) in
-      let fits : Fits form state r = record { kind = rw (d .kind) (t .kind); narrow = d .narrow; in-range = t .item .in-range; in-order = t .item .in-order } in (
+      let fits : MayStand form state r = record { kind = rw (d .kind) (t .kind); narrow = d .narrow; in-range = t .item .in-range; in-order = t .item .in-order } in (
         record {
           rs = h .rs ++ r ∷ [];
           reads = reads-back form start (h .rs) (r ∷ []) (h .reads) (fits, tt);
@@ -152,24 +152,24 @@ module _ (form : Form) (s : List ℕ) (bytes : Bytes s) (short : length s ≤ by
 -- The two, for an input of any length.
 
 module _ (form : Form) (s : List ℕ) where
-  verdict-long : byteLimit form < length s → verdict form s ≡ refused form Size (byteLimit form)
+  verdict-long : pair form 32768 16387 < length s → verdict form s ≡ record { code = pair form 5 15; place = pair form 32768 16387; count = 0 }
   unfolding verdict
-  verdict-long l = simp (lt-ltb (byteLimit form) (length s) l)
+  verdict-long l = simp (lt-ltb (byteLimit form) (length s) (rw (byte-limit form) l)) (λ i. record { code = fault-code form Size i; place = byte-limit form i; count = 0 })
 
-  verdict-short : length s ≤ byteLimit form → verdict form s ≡ walk form (suc (length s)) s 0 start
+  verdict-short : length s ≤ pair form 32768 16387 → verdict form s ≡ walk form (suc (length s)) s 0 start
   unfolding verdict
-  verdict-short l = simp (le-ltb (byteLimit form) (length s) l)
+  verdict-short l = simp (le-ltb (byteLimit form) (length s) (rw (byte-limit form) l))
 
   pub answer : Bytes s → Accepted form s (verdict form s) ⊎ Refused form s (verdict form s)
   answer bytes =
-      elim (decLt (byteLimit form) (length s)) [
-        | yes l ↦ rw (verdict-long l) (inr (over-long (rw (← byte-limit form) l) (fault-code form Size) (byte-limit form), refl))
+      elim (decLt (pair form 32768 16387) (length s)) [
+        | yes l ↦ rw (verdict-long l) (inr (over-long l refl refl, refl))
         | no l ↦
-            let short : length s ≤ byteLimit form = omega arith in
+            let short : length s ≤ pair form 32768 16387 = omega arith in
             rw (verdict-short short) (answered form s bytes short (suc (length s)) 0 (record { rs = []; reads = tt; sized = tt; offset = refl; bytes = refl }) (omega arith) (omega arith))
       ]
 
-  pub accepts : (items : List Record) → s ≡ encode items → length s ≤ byteLimit form → Reads form start items → Sized form start items → whole (reach start items) ≡ true →
+  pub accepts : (items : List Record) → s ≡ encode items → length s ≤ pair form 32768 16387 → Reads form start items → Sized form start items → whole (reach start items) ≡ true →
       verdict form s ≡ record { code = 0; place = 0; count = countOf form (reach start items) }
   unfolding finish
   accepts items e l f z w =
@@ -179,7 +179,7 @@ module _ (form : Form) (s : List ℕ) where
 
   pub refuses : Bytes s → (code place : ℕ) → Faulty form s code place → verdict form s ≡ record { code = code; place = place; count = 0 }
   refuses bytes code place (over-long l c p) =
-      verdict-long (rw (byte-limit form) l) ∙ (λ i. record { code = (fault-code form Size ∙ inv c) i; place = (byte-limit form ∙ inv p) i; count = 0 })
+      verdict-long l ∙ (λ i. record { code = inv c i; place = inv p i; count = 0 })
   refuses bytes code place (at-place l g x) =
       let f = beginning-reads form (g .before) .0 (g .begins) in
       let z = sizes-iff form (g .before) f .0 (g .sizes) in
@@ -187,4 +187,4 @@ module _ (form : Form) (s : List ℕ) where
       let at = 0 + length (encode (g .before)) in
       let r = refused-at form s at code (g .before) f (q .0) (found form s at (g .before) f bytes code (subst (λ (y : List ℕ). Fails form (g .before) y code) (inv (q .1)) x)) in
       let here : at ≡ place = omega (arith, g .offset) in
-      verdict-short (rw (byte-limit form) l) ∙ r .2 ∙ (λ i. record { code = (fault-code form (r .0) ∙ inv (r .1)) i; place = here i; count = 0 })
+      verdict-short l ∙ r .2 ∙ (λ i. record { code = (fault-code form (r .0) ∙ inv (r .1)) i; place = here i; count = 0 })

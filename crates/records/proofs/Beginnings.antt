@@ -18,9 +18,9 @@ use Rattle.records.specs.declared.record.Record.the-variants.{Variable, 
 use Rattle.records.specs.Reading.{allowed, inRange, inOrder, after, whole, start}
 use Rattle.records.specs.Format.{recordKind, nodeRecords, Terms, terms-none, terms-constant, formula, AreFormulas}
 use Rattle.records.specs.Faulty.{Complete, Beginning, KindAllowed}
-use Rattle.records.proofs.Items.{Narrow, Kinded, k1, k2, k3, k4, k5, k6, k7, allowed-is, allowed-kinded}
+use Rattle.records.proofs.Items.{NarrowRecord, Kinded, k1, k2, k3, k4, k5, k6, k7, allowed-is, allowed-kinded}
 use Rattle.records.proofs.Numbering.{Ordered}
-use Rattle.records.proofs.Owed.{Fits, Follows, Owed, start-complete, owed-between}
+use Rattle.records.proofs.Owed.{MayStand, Follows, Owed, start-complete, owed-between}
 use Rattle.records.proofs.Stepping.{owed, stepped}
 
 -- the state after some records
@@ -31,7 +31,7 @@ reach state (r ∷ rs) = reach (after state r) rs
 -- each record may stand where it stands, but for its size
 abbrev pub Reads : Form → State → List Record → Type 0
 Reads form state [] = Unit
-Reads form state (r ∷ rs) = Fits form state r × Reads form (after state r) rs
+Reads form state (r ∷ rs) = MayStand form state r × Reads form (after state r) rs
 
 pub reach-append : (state : State) (a b : List Record) → reach state (a ++ b) ≡ reach (reach state a) b
 reach-append state [] b = refl
@@ -118,7 +118,7 @@ completion form state =
 record Sample (k : ℕ) : Type 0 where
   item : Record
   kind : recordKind item ≡ k
-  narrow : Narrow item
+  narrow : NarrowRecord item
   in-range : inRange item ≡ true
   in-order : (state : State) → inOrder state item ≡ true
 
@@ -164,6 +164,6 @@ module _ (form : Form) (rs : List Record) where
             let state = reach start rs in
             let x = sample (allowed-kinded form state k (allowed-is form state k e)) in
             let c = completion form (after state (x .item)) in
-            let fits : Fits form state (x .item) = record { kind = rw (x .kind) e; narrow = x .narrow; in-range = x .in-range; in-order = x .in-order state } in
+            let fits : MayStand form state (x .item) = record { kind = rw (x .kind) e; narrow = x .narrow; in-range = x .in-range; in-order = x .in-order state } in
             let o = owes form start rs (x .item ∷ c .0) r (owed form state (x .item ∷ c .0) (fits, c .1)) in
             record { like = x .item; same = x .kind; begins = (c .0, subst (Complete form) (inv (append-assoc rs (x .item ∷ []) (c .0))) (start-complete form _ o)) }

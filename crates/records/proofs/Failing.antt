@@ -23,7 +23,7 @@ use Rattle.records.specs.Reading.{codeBase, faultNumber, allowed, bodyLe
 use Rattle.records.specs.Format.{recordKind, encodeRecord, Bytes}
 use Rattle.records.specs.Faulty.{pair, KindAllowed, InRange, Stands, Fails, missing, of-kind, of-cut, of-range, of-size, of-number}
 use Rattle.records.proofs.Tests.{zero-one, and-both}
-use Rattle.records.proofs.Items.{Narrow, Decoded, decode, allowed-is, allowed-kinded}
+use Rattle.records.proofs.Items.{NarrowRecord, Decoded, decode, allowed-is, allowed-kinded}
 use Rattle.records.proofs.Encoded.{head-of, Encoded, encoded}
 use Rattle.records.proofs.Tested.{Tested, range-failed, size-failed, number-failed, Looked, kind-failed, cut-failed, whole-record}
 use Rattle.records.proofs.Beginnings.{reach, Reads, complete-whole, kind-allowed}
@@ -116,7 +116,7 @@ module _ (form : Form) (s : List ℕ) (at : ℕ) (rs : List Record) (f : Reads f
     decoded : allowed form (reach start rs) (getD s at 0) ≡ true → bodyLength (getD s at 0) < length s - at → Decoded s at (getD s at 0)
     decoded a b = decode s bytes at (getD s at 0) (allowed-kinded form (reach start rs) _ (allowed-is form (reach start rs) _ a)) refl b
 
-    failed-record : (fault : Fault) (r : Record) → Stands form rs (drop at s) r → allowed form (reach start rs) (recordKind r) ≡ true → Narrow r →
+    failed-record : (fault : Fault) (r : Record) → Stands form rs (drop at s) r → allowed form (reach start rs) (recordKind r) ≡ true → NarrowRecord r →
         Tested form (reach start rs) r (Bad fault) → Fails form rs (drop at s) (codes form fault)
     failed-record fault r d a n (range-failed e) = of-range r d (not-true (inRange r) (range-iff r) .1 e) refl
     failed-record fault r d a n (size-failed i e) = of-size r d (range-iff r .1 i) (size-iff form rs (reach start rs) (told form rs f) r a n .1 e) refl
@@ -143,11 +143,11 @@ module _ (form : Form) (s : List ℕ) (at : ℕ) (rs : List Record) (f : Reads f
 
   module _ (bytes : Bytes s) (code : ℕ) where
     found-record : (fault : Fault) (r : Record) → Stands form rs (drop at s) r → code ≡ codes form fault →
-        (allowed form (reach start rs) (recordKind r) ≡ true → Narrow r → Tested form (reach start rs) r (Bad fault)) → Found code
+        (allowed form (reach start rs) (recordKind r) ≡ true → NarrowRecord r → Tested form (reach start rs) r (Bad fault)) → Found code
     found-record fault r d c t =
         let e = encoded s at r (d .later) (d .bytes) in
         let a = kind-allowed form rs f (recordKind r) .0 (d .allowed) in
-        let n = subst Narrow (e .item) (decode s bytes at (recordKind r) (allowed-kinded form (reach start rs) _ (allowed-is form (reach start rs) _ a)) (e .kind) (e .body) .narrow) in
+        let n = subst NarrowRecord (e .item) (decode s bytes at (recordKind r) (allowed-kinded form (reach start rs) _ (allowed-is form (reach start rs) _ a)) (e .kind) (e .body) .narrow) in
         let body = e .body in
         at-record fault c (omega arith) (looked-record form (reach start rs) s at r (d .later) (Bad fault) e a (t a n))
 

@@ -44,56 +44,56 @@ counts-nodes state (x ∷ e) =
     record { nodes = omega (arith, a .nodes, b .nodes); clauses = b .clauses ∙ a .clauses }
 
 -- nodes that keep the sizes, and then other records that do
-record Kept (form : Form) (state : State) (e : Expr) (tail : List Record) : Type 0 where
+record NodesSized (form : Form) (state : State) (e : Expr) (tail : List Record) : Type 0 where
   size : length e ≤ nodeLimit form - state .nodes
   below : Below (variableLimit form) e
   later : Sized form (reach state (nodeRecords e)) tail
 
 module _ (form : Form) (tail : List Record) where
-  kept-more : (state : State) (x : Node) (e : Expr) → state .nodes < nodeLimit form → Below (variableLimit form) (x ∷ []) → Kept form (after state (nodeRecord x)) e tail → Kept form state (x ∷ e) tail
-  kept-more state x e l b k = record { size = omega (arith, k .size, counts-node state x .nodes); below = together x b; later = k .later }
+  nodes-more : (state : State) (x : Node) (e : Expr) → state .nodes < nodeLimit form → Below (variableLimit form) (x ∷ []) → NodesSized form (after state (nodeRecord x)) e tail → NodesSized form state (x ∷ e) tail
+  nodes-more state x e l b k = record { size = omega (arith, k .size, counts-node state x .nodes); below = together x b; later = k .later }
     where
       together : (y : Node) → Below (variableLimit form) (y ∷ []) → Below (variableLimit form) (y ∷ e)
       together (var v) b = (b .0, k .below)
       together (sym s) b = k .below
 
-  kept : (state : State) (e : Expr) → Sized form state (nodeRecords e ++ tail) → Kept form state e tail
+  nodes-sized : (state : State) (e : Expr) → Sized form state (nodeRecords e ++ tail) → NodesSized form state e tail
   unfolding inSize
-  kept state [] s = record { size = zero-le; below = tt; later = s }
-  kept state (var v ∷ e) s =
+  nodes-sized state [] s = record { size = zero-le; below = tt; later = s }
+  nodes-sized state (var v ∷ e) s =
       let z = and-both (ltb (state .nodes) (nodeLimit form)) (ltb v (variableLimit form)) (s .0) in
-      kept-more state (var v) e (ltb-true (state .nodes) (nodeLimit form) (z .0)) (ltb-true v (variableLimit form) (z .1), tt) (kept _ e (s .1))
-  kept state (sym (constant c) ∷ e) s = kept-more state (sym (constant c)) e (ltb-true (state .nodes) (nodeLimit form) (s .0)) tt (kept _ e (s .1))
-  kept state (sym (compound f n) ∷ e) s = kept-more state (sym (compound f n)) e (ltb-true (state .nodes) (nodeLimit form) (s .0)) tt (kept _ e (s .1))
-  kept state (sym (predicate p n) ∷ e) s = kept-more state (sym (predicate p n)) e (ltb-true (state .nodes) (nodeLimit form) (s .0)) tt (kept _ e (s .1))
+      nodes-more state (var v) e (ltb-true (state .nodes) (nodeLimit form) (z .0)) (ltb-true v (variableLimit form) (z .1), tt) (nodes-sized _ e (s .1))
+  nodes-sized state (sym (constant c) ∷ e) s = nodes-more state (sym (constant c)) e (ltb-true (state .nodes) (nodeLimit form) (s .0)) tt (nodes-sized _ e (s .1))
+  nodes-sized state (sym (compound f n) ∷ e) s = nodes-more state (sym (compound f n)) e (ltb-true (state .nodes) (nodeLimit form) (s .0)) tt (nodes-sized _ e (s .1))
+  nodes-sized state (sym (predicate p n) ∷ e) s = nodes-more state (sym (predicate p n)) e (ltb-true (state .nodes) (nodeLimit form) (s .0)) tt (nodes-sized _ e (s .1))
 
-  kept-less : (state : State) (x : Node) (e : Expr) → Below (variableLimit form) e → Kept form state (x ∷ e) tail → Kept form (after state (nodeRecord x)) e tail
-  kept-less state x e b k = record { size = omega (arith, k .size, counts-node state x .nodes); below = b; later = k .later }
+  nodes-less : (state : State) (x : Node) (e : Expr) → Below (variableLimit form) e → NodesSized form state (x ∷ e) tail → NodesSized form (after state (nodeRecord x)) e tail
+  nodes-less state x e b k = record { size = omega (arith, k .size, counts-node state x .nodes); below = b; later = k .later }
 
-  kept-back : (state : State) (e : Expr) → Kept form state e tail → Sized form state (nodeRecords e ++ tail)
+  nodes-back : (state : State) (e : Expr) → NodesSized form state e tail → Sized form state (nodeRecords e ++ tail)
   unfolding inSize
-  kept-back state [] k = k .later
-  kept-back state (var v ∷ e) k =
-      (simp (lt-ltb (state .nodes) (nodeLimit form) (omega (arith, k .size)), lt-ltb v (variableLimit form) (k .below .0)), kept-back _ e (kept-less state (var v) e (k .below .1) k))
-  kept-back state (sym (constant c) ∷ e) k = (lt-ltb (state .nodes) (nodeLimit form) (omega (arith, k .size)), kept-back _ e (kept-less state (sym (constant c)) e (k .below) k))
-  kept-back state (sym (compound f n) ∷ e) k = (lt-ltb (state .nodes) (nodeLimit form) (omega (arith, k .size)), kept-back _ e (kept-less state (sym (compound f n)) e (k .below) k))
-  kept-back state (sym (predicate p n) ∷ e) k = (lt-ltb (state .nodes) (nodeLimit form) (omega (arith, k .size)), kept-back _ e (kept-less state (sym (predicate p n)) e (k .below) k))
+  nodes-back state [] k = k .later
+  nodes-back state (var v ∷ e) k =
+      (simp (lt-ltb (state .nodes) (nodeLimit form) (omega (arith, k .size)), lt-ltb v (variableLimit form) (k .below .0)), nodes-back _ e (nodes-less state (var v) e (k .below .1) k))
+  nodes-back state (sym (constant c) ∷ e) k = (lt-ltb (state .nodes) (nodeLimit form) (omega (arith, k .size)), nodes-back _ e (nodes-less state (sym (constant c)) e (k .below) k))
+  nodes-back state (sym (compound f n) ∷ e) k = (lt-ltb (state .nodes) (nodeLimit form) (omega (arith, k .size)), nodes-back _ e (nodes-less state (sym (compound f n)) e (k .below) k))
+  nodes-back state (sym (predicate p n) ∷ e) k = (lt-ltb (state .nodes) (nodeLimit form) (omega (arith, k .size)), nodes-back _ e (nodes-less state (sym (predicate p n)) e (k .below) k))
 
 -- Books
 
 -- good clauses, from a state on, and how many they are
-pub record Held (state : State) (b : Next.Book) : Type 0 where
+pub record GoodFrom (state : State) (b : Next.Book) : Type 0 where
   pub good : GoodClauses b
   pub few : length b ≤ 512 - state .clauses
   pub count : reach state (bookRecords b) .clauses ≡ state .clauses + length b
 
-pub clauses-held : (b : Next.Book) (state : State) → FormedClauses b → Sized Book state (bookRecords b) → Held state b
+pub clauses-held : (b : Next.Book) (state : State) → FormedClauses b → Sized Book state (bookRecords b) → GoodFrom state b
 unfolding inSize after
 clauses-held [] state f s = record { good = tt; few = zero-le; count = omega arith }
 clauses-held (c ∷ b) state f s =
     let g = c .head ∷ c .body in
     let opened = after state (Clause (length (c .body))) in
-    let k = kept Book (bookRecords b) opened (flat g) (s .1) in
+    let k = nodes-sized Book (bookRecords b) opened (flat g) (s .1) in
     let h = clauses-held b (reach opened (nodeRecords (flat g))) (f .1) (k .later) in
     let q = counts-nodes opened (flat g) in
     let few = f .0 .few in
@@ -118,21 +118,21 @@ clauses-sized (c ∷ b) state g l =
     let q = counts-nodes opened (flat f) in
     let fit = g .0 .fitting in (
       lt-ltb (state .clauses) 512 (omega arith),
-      kept-back Book (bookRecords b) opened (flat f)
+      nodes-back Book (bookRecords b) opened (flat f)
           (record { size = omega (arith, fit .size, flat-size f); below = fit .below; later = clauses-sized b (reach opened (nodeRecords (flat f))) (g .1) (omega (arith, q .clauses)) }),
     )
 
 -- Goals
 
-pub goal-count : (g : Next.Goal) → reach start (goalRecords g) .nodes ≡ nodes g
+pub goal-nodes : (g : Next.Goal) → reach start (goalRecords g) .nodes ≡ nodes g
 unfolding after
-goal-count g = omega (arith, counts-nodes (after start (Goal (length g))) (flat g) .nodes, flat-size g)
+goal-nodes g = omega (arith, counts-nodes (after start (Goal (length g))) (flat g) .nodes, flat-size g)
 
 pub goal-held : (g : Next.Goal) → Formed 512 g → Sized Query start (goalRecords g) → GoodGoal g
 unfolding after
 goal-held g f s =
     let opened = after start (Goal (length g)) in
-    let k = kept Query [] opened (flat g) (subst (Sized Query opened) (inv (append-nil (nodeRecords (flat g)))) (s .1)) in
+    let k = nodes-sized Query [] opened (flat g) (subst (Sized Query opened) (inv (append-nil (nodeRecords (flat g)))) (s .1)) in
     record { few = f .few; formulas = f .formulas; fitting = record { size = omega (arith, k .size, flat-size g); below = k .below; numbered = f .numbered } }
 
 pub goal-sized : (g : Next.Goal) → GoodGoal g → Sized Query start (goalRecords g)
@@ -140,4 +140,4 @@ unfolding inSize after
 goal-sized g good =
     let opened = after start (Goal (length g)) in
     let fit = good .fitting in
-    (refl, subst (Sized Query opened) (append-nil (nodeRecords (flat g))) (kept-back Query [] opened (flat g) (record { size = omega (arith, fit .size, flat-size g); below = fit .below; later = tt })))
+    (refl, subst (Sized Query opened) (append-nil (nodeRecords (flat g))) (nodes-back Query [] opened (flat g) (record { size = omega (arith, fit .size, flat-size g); below = fit .below; later = tt })))

@@ -16,13 +16,13 @@ use Rattle.records.specs.declared.record.Record.the-variants.{Formula, C
 use Rattle.records.specs.Reading.{allowed, inRange, inOrder, afterNode, between, after, whole, start}
 use Rattle.records.specs.Format.{recordKind, nodeRecord, nodeRecords, Terms, terms-none, terms-var, terms-constant, terms-compound, formula, AreFormulas}
 use Rattle.records.specs.Faulty.{Complete}
-use Rattle.records.proofs.Items.{Narrow}
+use Rattle.records.proofs.Items.{NarrowRecord}
 use Rattle.records.proofs.Numbering.{Ordered, numbered, ordered}
 
 -- a record that may stand next, but for its size
-pub record Fits (form : Form) (state : State) (r : Record) : Type 0 where
+pub record MayStand (form : Form) (state : State) (r : Record) : Type 0 where
   pub kind : allowed form state (recordKind r) ≡ true
-  pub narrow : Narrow r
+  pub narrow : NarrowRecord r
   pub in-range : inRange r ≡ true
   pub in-order : inOrder state r ≡ true
 
@@ -45,7 +45,7 @@ pub record Owed (form : Form) (state : State) (items : List Record) : Type 0 whe
 -- one record, and then what is owed; or nothing is
 abbrev pub Stepped : Form → State → List Record → Type 0
 Stepped form state [] = whole state ≡ true
-Stepped form state (r ∷ rs) = Fits form state r × Owed form (after state r) rs
+Stepped form state (r ∷ rs) = MayStand form state r × Owed form (after state r) rs
 
 -- Before a clause or a goal, nothing is owed.
 
@@ -60,7 +60,7 @@ no-formulas [] z = refl
 no-formulas (f ∷ fs) z = absurd (omega arith)
 
 -- formulas, and what follows them
-pub record Formulas (form : Form) (closed : Bool) (formulas : ℕ) (items : List Record) : Type 0 where
+pub record FormulasOwed (form : Form) (closed : Bool) (formulas : ℕ) (items : List Record) : Type 0 where
   pub fs : List Expr
   pub tail : List Record
   pub split : items ≡ nodeRecords (flat fs) ++ tail
@@ -69,7 +69,7 @@ pub record Formulas (form : Form) (closed : Bool) (formulas : ℕ) (items : List
   pub ordered : Ordered 0 (flat fs)
   pub follows : Follows form closed tail
 
-pub formulas-owed : {form : Form} {closed : Bool} {m n : ℕ} {items : List Record} → Owed form (between m n closed) items → Formulas form closed m items
+pub formulas-owed : {form : Form} {closed : Bool} {m n : ℕ} {items : List Record} → Owed form (between m n closed) items → FormulasOwed form closed m items
 formulas-owed o =
     let z = no-terms refl (o .terms) in
     record { fs = o .fs; tail = o .tail; split = rw z at (o .split); are = o .formulas; count = o .count; ordered = rw z at (o .ordered); follows = o .follows }
@@ -120,7 +120,7 @@ module _ (form : Form) (state : State) (rs : List Record) where
       record { e = []; fs = []; tail = rs; split = refl; terms = rw t terms-none; formulas = tt; count = inv m; ordered = tt; follows = rw c f }
 
 -- a clause, the end of a book, a goal
-pub clause-complete : (n : ℕ) (rs : List Record) → n ≤ 16 → Formulas Book false (n + 1) rs → Complete Book (Clause n ∷ rs)
+pub clause-complete : (n : ℕ) (rs : List Record) → n ≤ 16 → FormulasOwed Book false (n + 1) rs → Complete Book (Clause n ∷ rs)
 clause-complete n rs h f = by (f .fs) (f .count) (f .are) (f .ordered) (f .split)
   where
     by : (fs : List Expr) → length fs ≡ n + 1 → AreFormulas fs → Ordered 0 (flat fs) → rs ≡ nodeRecords (flat fs) ++ f .tail → Complete Book (Clause n ∷ rs)
@@ -133,13 +133,13 @@ clause-complete n rs h f = by (f .fs) (f .count) (f .are) (f .ordered) (f .split
           (λ i. Clause (q i) ∷ s i) ∙ ap (λ (l : List Record). Clause (length body) ∷ (nodeRecords (flat (head ∷ body)) ++ l)) (more .2),
         )
 
-pub end-complete : (rs : List Record) → Formulas Book true 0 rs → Complete Book (End ∷ rs)
+pub end-complete : (rs : List Record) → FormulasOwed Book true 0 rs → Complete Book (End ∷ rs)
 end-complete rs f =
     let z = no-formulas (f .fs) (f .count) in
     let q : rs ≡ f .tail = rw z at (f .split) in
     ([], tt, ap (λ (l : List Record). End ∷ l) (q ∙ f .follows))
 
-pub goal-complete : (n : ℕ) (rs : List Record) → n ≤ 512 → Formulas Query true n rs → Complete Query (Goal n ∷ rs)
+pub goal-complete : (n : ℕ) (rs : List Record) → n ≤ 512 → FormulasOwed Query true n rs → Complete Query (Goal n ∷ rs)
 goal-complete n rs h f =
     let count = f .count in
     let q : rs ≡ nodeRecords (flat (f .fs)) = f .split ∙ ap (λ (l : List Record). nodeRecords (flat (f .fs)) ++ l) (f .follows) ∙ append-nil _ in

@@ -19,7 +19,7 @@ use Rattle.records.specs.Reading.{nodeLimit, variableLimit, allowed, inS
 use Rattle.records.specs.Format.{recordKind, nodeRecord}
 use Rattle.records.specs.Faulty.{pair, SizePassed, clause-passed, node-passed, variable-passed, NextUnused, NumberAbove, WithinSizes}
 use Rattle.records.proofs.Tests.{zero-one}
-use Rattle.records.proofs.Items.{Narrow, Allowed, allowed-is}
+use Rattle.records.proofs.Items.{NarrowRecord, Allowed, allowed-is}
 use Rattle.records.proofs.Stepping.{for-term, for-formula, for-book}
 use Rattle.records.proofs.Beginnings.{reach, Reads, reads-front}
 use Rattle.records.proofs.Told.{since, ends-since, Told, told-start, told-next, told}
@@ -55,7 +55,7 @@ module _ (form : Form) (rs : List Record) (state : State) (k : Told form rs stat
   high Book v e n h = variable-passed v e refl h
   high Query v e n h = absurd (omega arith)
 
-  size-passed : (r : Record) → Allowed form state (recordKind r) → Narrow r → inSize form state r ≡ false → SizePassed form rs r
+  size-passed : (r : Record) → Allowed form state (recordKind r) → NarrowRecord r → inSize form state r ≡ false → SizePassed form rs r
   unfolding inSize
   size-passed (Variable v) a n e =
       cases (ltb (state .nodes) (nodeLimit form))
@@ -70,7 +70,7 @@ module _ (form : Form) (rs : List Record) (state : State) (k : Told form rs stat
   size-passed (Goal m) a n e = absurd (zero-one (cc))
   size-passed End a n e = absurd (zero-one (cc))
 
-  pub size-iff : (r : Record) → allowed form state (recordKind r) ≡ true → Narrow r → SizePassed form rs r ↔ (inSize form state r ≡ false)
+  pub size-iff : (r : Record) → allowed form state (recordKind r) ≡ true → NarrowRecord r → SizePassed form rs r ↔ (inSize form state r ≡ false)
   size-iff r a n = (passed-size r, size-passed r (allowed-is form state (recordKind r) a) n)
 
   -- Variable numbers.
@@ -135,10 +135,10 @@ module _ (form : Form) where
   sized-at state (x ∷ a) r b s = sized-at (after state x) a r b (s .1)
 
   pub sizes-iff : (rs : List Record) → Reads form start rs → WithinSizes form rs ↔ Sized form start rs
-  sizes-iff rs f = (sized-all [] rs start (told-start form) f, within)
+  sizes-iff rs f = (sized-all [] rs start (told-start form) f, keeps)
     where
-      within : Sized form start rs → WithinSizes form rs
-      within s a r b q p =
+      keeps : Sized form start rs → WithinSizes form rs
+      keeps s a r b q p =
           let g = reads-front form start a (r ∷ b) (subst (Reads form start) q f) in
           let t = sized-at start a r b (subst (Sized form start) q s) in
           let u = size-iff form a (reach start a) (told form a (g .0)) r (g .1 .0 .kind) (g .1 .0 .narrow) .0 p in

@@ -22,7 +22,7 @@ use Rattle.records.specs.Faulty.{FormedClauses, Formed}
 use Rattle.records.proofs.Tests.{zero-one, and-both}
 use Rattle.records.proofs.Items.{Allowed, as-term, as-formula, as-clause, as-end, as-goal, allowed-is}
 use Rattle.records.proofs.Numbering.{Ordered, ordered}
-use Rattle.records.proofs.Owed.{Fits, Follows, Owed, Stepped, Formulas, formulas-owed, owed-term, owed-formula, owed-between, clause-complete, end-complete, goal-complete}
+use Rattle.records.proofs.Owed.{MayStand, Follows, Owed, Stepped, FormulasOwed, formulas-owed, owed-term, owed-formula, owed-between, clause-complete, end-complete, goal-complete}
 
 -- Where a record may stand.
 
@@ -67,7 +67,7 @@ whole-is state x = whole-by state _ _ refl refl x
 
 -- From a record that fits, and what is owed then.
 
-owed-one : (form : Form) (state : State) (r : Record) (rs : List Record) → Allowed form state (recordKind r) → Fits form state r → Owed form (after state r) rs → Owed form state (r ∷ rs)
+owed-one : (form : Form) (state : State) (r : Record) (rs : List Record) → Allowed form state (recordKind r) → MayStand form state r → Owed form (after state r) rs → Owed form state (r ∷ rs)
 unfolding after inRange inOrder
 owed-one form state (Variable v) rs a f o =
     let q : state .terms ≡ suc (state .terms - 1) = omega (arith, for-term form state 1 a (omega arith)) in
@@ -87,7 +87,7 @@ owed-one form state (Formula p n) rs a f o =
 owed-one form state (Clause n) rs a f o =
     let h = for-book form state 5 a (omega arith) (λ z. omega arith) in
     let o′ : Owed Book (after state (Clause n)) rs = rw (h .3) at o in
-    let g : Formulas Book (state .closed) (n + 1) rs = formulas-owed o′ in
+    let g : FormulasOwed Book (state .closed) (n + 1) rs = formulas-owed o′ in
     rw (h .3) (owed-between Book state (Clause n ∷ rs) (h .0) (h .1) (h .2) (clause-complete n rs (leb-true n 16 (f .in-range)) (rw (h .2) at g)))
 owed-one form state (Goal n) rs a f o =
     let h = for-query form state 6 a refl in

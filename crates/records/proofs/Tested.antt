@@ -1,4 +1,4 @@
--- The reader's tests of one record: the first that fails, or none; and the other way round.
+-- The reader tests a record in document 01's order, "kind, body cut, range, size, variable number": the first test that fails, or none.
 use Prim.Native.Nat.{ℕ, _-_, _≤_, _<_}
 use borrow.Author.Tests.{leb-true, leb-false, le-leb, lt-leb}
 use mathlib.Core.Path.{_≡_}

@@ -22,8 +22,8 @@ use Rattle.records.specs.Format.{nodeRecord, nodeRecords}
 use Rattle.records.specs.Faulty.{EndsIn, in-clause, in-goal, clauseCount}
 use Rattle.records.proofs.Tests.{zero-one}
 use Rattle.records.proofs.Items.{allowed-is}
-use Rattle.records.proofs.Numbering.{next-same, next-other}
-use Rattle.records.proofs.Owed.{Fits}
+use Rattle.records.proofs.Numbering.{unused-same, unused-other}
+use Rattle.records.proofs.Owed.{MayStand}
 use Rattle.records.proofs.Stepping.{for-term, for-formula, for-query}
 use Rattle.records.proofs.Beginnings.{reach, Reads}
 
@@ -111,7 +111,7 @@ used-variable e n w h u v = cases (eqb w n) new old
     new : eqb w n ≡ true → In v (e ++ (var w ∷ [])) ↔ (v < nextUnused n w)
     new p =
         let q = eqb-true w n p in
-        rw (next-same n w q) (
+        rw (unused-same n w q) (
           there (suc n) (omega arith) (omega arith),
           λ l. cases (eqb v w) (λ z. in-right v e (var w ∷ []) (inl (eqb-true v w z))) (λ z. in-left v e (var w ∷ []) (u v .1 (omega (arith, eqb-false v w z)))),
         )
@@ -119,7 +119,7 @@ used-variable e n w h u v = cases (eqb w n) new old
     old : eqb w n ≡ false → In v (e ++ (var w ∷ [])) ↔ (v < nextUnused n w)
     old p =
         let q = eqb-false w n p in
-        rw (next-other n w q) (there n (omega arith) (omega arith), λ l. in-left v e (var w ∷ []) (u v .1 l))
+        rw (unused-other n w q) (there n (omega arith) (omega arith), λ l. in-left v e (var w ∷ []) (u v .1 l))
 
 pub record Told (form : Form) (rs : List Record) (state : State) : Type 0 where
   pub clauses : form ≡ Book → state .clauses ≡ clauseCount rs
@@ -143,7 +143,7 @@ told-opened : (form : Form) (rs : List Record) (state : State) (r : Record) → 
     (form ≡ Book → state .clauses ≡ clauseCount (rs ++ r ∷ [])) → (0 < state .terms + state .formulas → EndsIn (rs ++ r ∷ []) []) → Told form (rs ++ r ∷ []) state
 told-opened form rs state r q n u c i = record { clauses = c; nodes = rw q n; variables = rw (q, u) (λ v. (λ (z : ⊥). absurd z, λ (h : v < 0). absurd (omega arith))); inside = rw q i }
 
-pub told-next : (form : Form) (rs : List Record) (state : State) (r : Record) → Told form rs state → Fits form state r → Told form (rs ++ r ∷ []) (after state r)
+pub told-next : (form : Form) (rs : List Record) (state : State) (r : Record) → Told form rs state → MayStand form state r → Told form (rs ++ r ∷ []) (after state r)
 unfolding after inOrder
 told-next form rs state (Variable v) k f =
     told-node form rs state (var v) _ _ _ k
