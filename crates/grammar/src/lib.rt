@@ -1,0 +1,1 @@
+// The notation in which rule books are written, as definitions and theorems; no code.
