@@ -18,10 +18,11 @@ use Rattle.records.specs.declared.record.Record.the-variants.{Variable, 
 use Rattle.records.specs.Reading.{allowed, inRange, inOrder, after, whole, start}
 use Rattle.records.specs.Format.{recordKind, nodeRecords, Terms, terms-none, terms-constant, formula, AreFormulas}
 use Rattle.records.specs.Faulty.{Complete, Beginning, KindAllowed}
+use Rattle.records.proofs.Tests.{zero-one}
 use Rattle.records.proofs.Items.{NarrowRecord, Kinded, k1, k2, k3, k4, k5, k6, k7, allowed-is, allowed-kinded}
 use Rattle.records.proofs.Numbering.{Ordered}
 use Rattle.records.proofs.Owed.{MayStand, Follows, Owed, start-complete, owed-between}
-use Rattle.records.proofs.Stepping.{owed, stepped}
+use Rattle.records.proofs.Stepping.{whole-is, owed, stepped}
 
 -- the state after some records
 abbrev pub reach : State → List Record → State
@@ -167,3 +168,12 @@ module _ (form : Form) (rs : List Record) where
             let fits : MayStand form state (x .item) = record { kind = rw (x .kind) e; narrow = x .narrow; in-range = x .in-range; in-order = x .in-order state } in
             let o = owes form start rs (x .item ∷ c .0) r (owed form state (x .item ∷ c .0) (fits, c .1)) in
             record { like = x .item; same = x .kind; begins = (c .0, subst (Complete form) (inv (append-assoc rs (x .item ∷ []) (c .0))) (start-complete form _ o)) }
+
+    -- "a byte after the end"
+    pub nothing-after : Complete form rs → (k : ℕ) → KindAllowed form rs k → ⊥
+    unfolding allowed
+    nothing-after c k a =
+        let h = whole-is (reach start rs) (complete-whole .0 c) in
+        let e : allowed form (reach start rs) k ≡ false = simp (h .0, h .1, h .2) in
+        let q = kind-allowed k .0 a in
+        zero-one (cc)

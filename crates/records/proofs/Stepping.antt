@@ -61,7 +61,7 @@ whole-by state true b p q x = absurd (zero-one (cc))
 whole-by state false true p q x = absurd (zero-one (cc))
 whole-by state false false p q x = (omega (arith, ltb-false 0 (state .terms) p), omega (arith, ltb-false 0 (state .formulas) q), x)
 
-whole-is : (state : State) → whole state ≡ true → (state .terms ≡ 0) × (state .formulas ≡ 0) × (state .closed ≡ true)
+pub whole-is : (state : State) → whole state ≡ true → (state .terms ≡ 0) × (state .formulas ≡ 0) × (state .closed ≡ true)
 unfolding whole
 whole-is state x = whole-by state _ _ refl refl x
 

@@ -103,7 +103,8 @@ pub record Stands (form : Form) (rs : List Record) (rest : List ℕ) (r : Record
   pub bytes : rest ≡ encodeRecord r ++ later
   pub allowed : KindAllowed form rs (recordKind r)
 
--- what stands behind rs fails a test and none before it: "kind, body cut, range, size, variable number"
+-- what stands behind rs fails a test and none before it: "kind, body cut, range, size, variable number". A record is missing where nothing stands there and rs is
+-- not complete; behind complete records no kind is allowed, so any byte there is one after the end; a body is cut where less is left than its record is long.
 pub data Fails (form : Form) (rs : List Record) (rest : List ℕ) (code : ℕ) : Type 0 where
   missing : rest ≡ [] → (Complete form rs → ⊥) → code ≡ pair form 2 12 → Fails form rs rest code
   of-kind : (kind : ℕ) (later : List ℕ) → rest ≡ kind ∷ later → (KindAllowed form rs kind → ⊥) → code ≡ pair form 2 12 → Fails form rs rest code
