@@ -3,7 +3,7 @@ use mathlib.Core.Path.{_≡_, refl}
 use mathlib.Core.List.{List, [], _∷_}
 use Prim.Native.Nat.{ℕ}
 use lib.ListN.{length}
-use Rattle.words.specs.Columns.{Only}
+use Rattle.words.specs.Columns.{Only, ROWS, END, UP, PICK, LEFT, RIGHT, FIRST}
 use Rattle.unifier.specs.Words.{child}
 use Rattle.unifier.specs.Closing.{Closing}
 use Rattle.unifier.specs.Tables.{ends, ups, picks, firsts, ClosedIn, TrialIn, EquatedIn}
@@ -12,12 +12,12 @@ use borrow.Author.Needs.{needs}
 use Rattle.unifier.proofs.equate.Statement.{statement}
 use Rattle.unifier.proofs.equate.Tie as tie
 
-module _ (w rows z : List ℕ) (c d : ℕ) (r : Bool) (cl : Closing w (ends w rows) (ups w rows) c d (ups w z) (picks w z) r) (o : Only (1 ∷ 2 ∷ 3 ∷ 4 ∷ []) rows z) where
+module _ (w rows z : List ℕ) (c d : ℕ) (r : Bool) (cl : Closing w (ends w rows) (ups w rows) c d (ups w z) (picks w z) r) (o : Only (UP ∷ PICK ∷ LEFT ∷ RIGHT ∷ []) rows z) where
   closed-in : r ≡ true → ClosedIn w z
-  closed-in h = rw (o .kept 0 (length w) refl) (cl .closed h)
+  closed-in h = rw (o .kept END (length w) refl) (cl .closed h)
 
   equated-in : (m j : ℕ) → TrialIn w rows m j → c ≡ child (ends w rows) 0 j → d ≡ child (ends w rows) m j → EquatedIn w z m j r
-  equated-in m j t ec ed = rw (o .kept 0 (length w) refl, o .kept 6 4352 refl) (equated w (ends w rows) (ups w rows) (picks w rows) (firsts rows) m j t c d ec ed (ups w z) (picks w z) r cl)
+  equated-in m j t ec ed = rw (o .kept END (length w) refl, o .kept FIRST ROWS refl) (equated w (ends w rows) (ups w rows) (picks w rows) (firsts rows) m j t c d ec ed (ups w z) (picks w z) r cl)
 
 pub equate-spec : {M : Type 1} → statement M
 equate-spec =
