@@ -1,0 +1,66 @@
+-- What is taken, and what is answered then, from both ends: bytes that are not refused are the images of a good book and a good goal; and on the images of a good book
+-- and a good goal, in an area that is long enough, each entry answers what its definition says of them. Nothing is said of refusals there.
+use Prim.Native.Nat.{ℕ, _≤_}
+use mathlib.Core.Path.{_≡_, ap, ap₂, _∙_}
+use mathlib.Core.Logic.{_↔_}
+use mathlib.Core.List.{List}
+use lib.ListN.{length}
+use Rattle.search.specs.Next.{Book, Goal}
+use Rattle.search.specs.Run.{Closed, run}
+use Rattle.search.specs.Told.{Told}
+use Rattle.search.specs.ToldLaws.{run-told}
+use Rattle.search.specs.Single.{Single, step}
+use Rattle.records.specs.declared.Check.{Check}
+use Rattle.records.specs.Format.{GoodBook, GoodGoal, encodeBook, encodeGoal, Bytes}
+use Rattle.records.specs.Decode.{bookOf, goalOf}
+use Rattle.records.proofs.Meaning.{book-written, query-written}
+use Rattle.records.proofs.Decoding.{bookOf-good, goalOf-good, bookOf-image, goalOf-image}
+use Rattle.records.proofs.Premises.{book-clauses, goal-premises}
+use Rattle.engine.specs.declared.admit.Admitted.{Admitted}
+use Rattle.engine.specs.Outcome.{refusal, over, ended, runAnswer, runArea, stepped, leaves, stepAnswer, stepArea}
+use Rattle.engine.specs.Refusals.{query-decides, Good, not-refused}
+use Rattle.engine.specs.Stepping as Stepping
+use Rattle.engine.specs.Running as Running
+
+-- nothing is refused just where the area is long enough and both checks answer 0
+pub taken-iff : (book query : List ℕ) (room : ℕ) → (refusal book query room .code ≡ 0) ↔ Good book query room
+taken-iff book query room = (not-refused book query room, λ g. ap (λ (a : Admitted). a .code) (query-decides book query room (g .enough) (g .book-good)) ∙ g .query-good)
+
+-- the bytes are images, of a good book and a good goal
+pub record Images (book query : List ℕ) : Type 0 where
+  pub good-book : GoodBook (bookOf book)
+  pub book-image : encodeBook (bookOf book) ≡ book
+  pub good-goal : GoodGoal (goalOf query)
+  pub query-image : encodeGoal (goalOf query) ≡ query
+
+pub images : (book query : List ℕ) → Bytes book → Bytes query → (room : ℕ) → refusal book query room .code ≡ 0 → Images book query
+images book query book-bytes query-bytes room z =
+    let g = not-refused book query room z in
+    let b = bookOf-good book book-bytes (g .book-good) in
+    let q = goalOf-good query query-bytes (g .query-good) in
+    record { good-book = b .0; book-image = b .1; good-goal = q .0; query-image = q .1 }
+
+module _ (P : Book) (good-book : GoodBook P) (q : Goal) (good-goal : GoodGoal q) (area : List ℕ) (long : 16387 ≤ length area) where
+  pub nothing-refused : refusal (encodeBook P) (encodeGoal q) (length area) .code ≡ 0
+  nothing-refused =
+      taken-iff (encodeBook P) (encodeGoal q) (length area) .1
+      (record { enough = long; book-good = ap (λ (c : Check). c .code) (book-written P good-book); query-good = ap (λ (c : Check). c .code) (query-written q good-goal) })
+
+  pub step-of-good : (stepAnswer (encodeBook P) (encodeGoal q) area ≡ stepped (step P q)) × (stepArea (encodeBook P) (encodeGoal q) area ≡ leaves (step P q .written) area)
+  step-of-good =
+      let same : step (bookOf (encodeBook P)) (goalOf (encodeGoal q)) ≡ step P q = ap₂ step (bookOf-image P good-book) (goalOf-image q good-goal) in
+      (Stepping.answer-taken (encodeBook P) (encodeGoal q) area nothing-refused ∙ ap stepped same, Stepping.area-taken (encodeBook P) (encodeGoal q) area nothing-refused ∙ ap (λ (s : Single). leaves (s .written) area) same)
+
+  module _ (budget : ℕ) where
+    pub run-of-good : (runAnswer (encodeBook P) (encodeGoal q) budget area ≡ ended (run P budget q)) × (runArea (encodeBook P) (encodeGoal q) budget area ≡ over (encodeGoal (run P budget q .goal)) area)
+    run-of-good =
+        let same : run (bookOf (encodeBook P)) budget (goalOf (encodeGoal q)) ≡ run P budget q = ap₂ (λ b g. run b budget g) (bookOf-image P good-book) (goalOf-image q good-goal) in
+        (Running.answer-taken (encodeBook P) (encodeGoal q) budget area nothing-refused ∙ ap ended same, Running.area-taken (encodeBook P) (encodeGoal q) budget area nothing-refused ∙ ap (λ (c : Closed). over (encodeGoal (c .goal)) area) same)
+
+    -- the same by document 01's "Detection states", told as a relation
+    pub run-as-told : (c : Closed) → Told P budget q c
+        → (runAnswer (encodeBook P) (encodeGoal q) budget area ≡ ended c) × (runArea (encodeBook P) (encodeGoal q) budget area ≡ over (encodeGoal (c .goal)) area)
+    run-as-told c told =
+        let premises = goal-premises q good-goal in
+        let same = run-told P (book-clauses P good-book) q (premises .0) (premises .1) budget c .1 told in
+        (run-of-good .0 ∙ ap ended same, run-of-good .1 ∙ ap (λ (c : Closed). over (encodeGoal (c .goal)) area) same)

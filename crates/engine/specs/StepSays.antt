@@ -1,0 +1,96 @@
+-- What a single step says (document 01, "Codes"), of bytes and in plain figures: "A single step gives 20, 22, 24 or 25, in that order of test, with steps 1 and the clause
+-- number (from 0) for code 25; otherwise steps and clause number are 0. Its span is always 0. Only code 25 writes: the next goal's image at the front of the area.
+-- Codes 20, 22 and 24 of a single step write nothing and report 0 bytes." The next goal is document 01's relation: any names that are apart, any most general unifier.
+use Prim.Native.Nat.{ℕ, _≤_}
+use native.Mathlib.Omega.{arith}
+use native.Mathlib.Decide.{ℕ-discrete}
+use mathlib.Core.Path.{_≡_, refl, sym as inv, ap, _∙_, subst}
+use mathlib.Core.Logic.{_↔_}
+use mathlib.Core.List.{List, [], _∷_, _++_}
+use lib.ListN.{length, drop}
+use Rattle.terms.specs.Node.{Expr}
+use Rattle.search.specs.Next.{Book, Goal, None-meets, Next, Next-from}
+use Rattle.search.specs.Room.{nodes, fits-iff}
+use Rattle.search.specs.Told.{Too-big}
+use Rattle.search.specs.TestLaws.{big-iff}
+use Rattle.search.specs.Single.{Single, not-taken, taken, step, Steps, solved-20, stuck-22, full-24, taken-25}
+use Rattle.search.specs.SingleLaws.{step-iff}
+use Rattle.records.specs.Format.{encodeGoal, Bytes}
+use Rattle.records.specs.Decode.{bookOf, goalOf}
+use Rattle.records.proofs.Premises.{book-clauses, goal-premises}
+use Rattle.engine.specs.declared.Stepped.{Stepped}
+use Rattle.engine.specs.Outcome.{refusal, stepped, leaves, stepAnswer, stepArea}
+use Rattle.engine.specs.Stepping.{answer-refused, answer-taken, area-taken}
+use Rattle.engine.specs.Figures.{refusal-low}
+use Rattle.engine.specs.Images.{Images, images}
+
+-- the step from q by P into an area, with what it answers and leaves
+pub data StepSays (P : Book) (q : Goal) (area : List ℕ) : Stepped → List ℕ → Type 0 where
+  solved : q ≡ [] → StepSays P q area (record { code = 20; place = 0; steps = 0; span = 0; bytes = 0; clause = 0 }) area
+  stuck : (f : Expr) (g : Goal) → q ≡ f ∷ g → None-meets f P → StepSays P q area (record { code = 22; place = 0; steps = 0; span = 0; bytes = 0; clause = 0 }) area
+  full : (k : ℕ) (h : Goal) → Next P q k h → Too-big h → StepSays P q area (record { code = 24; place = 0; steps = 0; span = 0; bytes = 0; clause = 0 }) area
+  went : (k : ℕ) (h : Goal) → Next P q k h → length h ≤ 512 → nodes h ≤ 4096
+      → StepSays P q area (record { code = 25; place = 0; steps = 1; span = 0; bytes = length (encodeGoal h); clause = k }) (encodeGoal h ++ drop (length (encodeGoal h)) area)
+
+module _ (P : Book) (q : Goal) (area : List ℕ) where
+  -- clauses counted from the first
+  counted : {k : ℕ} {h : Goal} → Next-from 0 P q k h → Next P q k h
+  counted {h = h} n = subst (λ k. Next P q k h) (let e : n .later ≡ _ = omega (arith, n .number) in e) (n .next)
+
+  from-first : {k : ℕ} {h : Goal} → Next P q k h → Next-from 0 P q k h
+  from-first {k} n = record { later = k; number = omega arith; next = n }
+
+  single-says : (s : Single) → Steps 0 P q s → StepSays P q area (stepped s) (leaves (s .written) area)
+  single-says s (solved-20 e) = solved e
+  single-says s (stuck-22 f g e n) = stuck f g e n
+  single-says s (full-24 k h n f) = full k h (counted n) (big-iff h .0 f)
+  single-says s (taken-25 k h n f) = let room = fits-iff h .0 f in went k h (counted n) (room .0) (room .1)
+
+  -- what is said comes of one single step
+  record ComesOf (r : Stepped) (after : List ℕ) : Type 0 where
+    single : Single
+    steps : Steps 0 P q single
+    answer : r ≡ stepped single
+    left : after ≡ leaves (single .written) area
+
+  says-single : {r : Stepped} {after : List ℕ} → StepSays P q area r after → ComesOf r after
+  says-single (solved e) = record { single = not-taken 20; steps = solved-20 e; answer = refl; left = refl }
+  says-single (stuck f g e n) = record { single = not-taken 22; steps = stuck-22 f g e n; answer = refl; left = refl }
+  says-single (full k h n b) = record { single = not-taken 24; steps = full-24 k h (from-first n) (big-iff h .1 b); answer = refl; left = refl }
+  says-single (went k h n l m) = record { single = taken k h; steps = taken-25 k h (from-first n) (fits-iff h .1 (l, m)); answer = refl; left = refl }
+
+-- "Codes 1 to 19 refuse the input": with a code from 20 up it is taken
+pub step-taken : (book query area : List ℕ) → 20 ≤ stepAnswer book query area .code → refusal book query (length area) .code ≡ 0
+step-taken book query area h = elim (ℕ-discrete (refusal book query (length area) .code) 0) [
+  | yes z ↦ z
+  | no n ↦ absurd (omega (arith, h, ap (λ (a : Stepped). a .code) (answer-refused book query area n), refusal-low book query (length area) .code))
+]
+
+module _ (book query area : List ℕ) (book-bytes : Bytes book) (query-bytes : Bytes query) where
+  abbrev P : Book
+  P = bookOf book
+
+  abbrev q : Goal
+  q = goalOf query
+
+  -- what is answered and left is said, and what is said is answered and left
+  pub step-says : refusal book query (length area) .code ≡ 0 → (r : Stepped) (after : List ℕ)
+      → ((stepAnswer book query area ≡ r) × (stepArea book query area ≡ after)) ↔ StepSays P q area r after
+  step-says z r after = (to, from)
+    where
+      good : Images book query
+      good = images book query book-bytes query-bytes (length area) z
+
+      by-relation : (s : Single) → (step P q ≡ s) ↔ Steps 0 P q s
+      by-relation = step-iff 0 P (book-clauses P (good .good-book)) q (goal-premises q (good .good-goal) .0)
+
+      to : (stepAnswer book query area ≡ r) × (stepArea book query area ≡ after) → StepSays P q area r after
+      to e =
+          subst (λ x. StepSays P q area x after) (inv (answer-taken book query area z) ∙ e .0)
+          (subst (StepSays P q area (stepped (step P q))) (inv (area-taken book query area z) ∙ e .1) (single-says P q area (step P q) (by-relation (step P q) .0 refl)))
+
+      from : StepSays P q area r after → (stepAnswer book query area ≡ r) × (stepArea book query area ≡ after)
+      from s =
+          let o = says-single P q area s in
+          let same = by-relation (o .single) .1 (o .steps) in
+          (answer-taken book query area z ∙ ap stepped same ∙ inv (o .answer), area-taken book query area z ∙ ap (λ (s : Single). leaves (s .written) area) same ∙ inv (o .left))
