@@ -1,0 +1,125 @@
+-- A step can be fed its own output: the image that a step or a run leaves is a good query, t steps lead to the goal of the path at t, and a run leaves what as many single
+-- steps write. Of any bytes that the checks find good.
+use Prim.Native.Nat.{ℕ, _≤_}
+use native.Mathlib.Omega.{arith}
+use mathlib.Core.Path.{_≡_, refl, sym as inv, ap, ap₂, _∙_, subst, transport}
+use mathlib.Core.Option.{some, Option·some-injective}
+use mathlib.Core.List.{List}
+use lib.ListN.{length, take, drop}
+use lib.Seq.{take-append-seam}
+use Rattle.loops.specs.Path.{path-zero}
+use Rattle.search.specs.Next.{Book, Goal, Next}
+use Rattle.search.specs.Step.{next-goal}
+use Rattle.search.specs.Run.{goal-at, Roomy}
+use Rattle.search.specs.PathLaws.{path-next}
+use Rattle.search.specs.Resolution.{Derived}
+use Rattle.search.specs.ResolutionLaws.{derived-iff}
+use Rattle.records.specs.declared.Check.{Check}
+use Rattle.records.specs.Reading.{bookVerdict, queryVerdict}
+use Rattle.records.specs.Format.{GoodBook, GoodGoal, encodeBook, encodeGoal, Bytes}
+use Rattle.records.specs.Decode.{bookOf, goalOf}
+use Rattle.records.proofs.Decoding.{bookOf-good, goalOf-good, goalOf-image}
+use Rattle.records.proofs.Meaning.{query-written}
+use Rattle.records.proofs.Premises.{book-clauses, goal-premises}
+use Rattle.areas.specs.GoodGoals.{book-atomic, goal-atomics}
+use Rattle.engine.specs.declared.Stepped.{Stepped}
+use Rattle.engine.specs.Outcome.{stepAnswer, stepArea, runAnswer, runArea}
+use Rattle.engine.specs.StepSays.{StepSays, solved, stuck, full, went, step-taken, step-says}
+use Rattle.engine.specs.RunSays as RunSays
+use Rattle.engine.specs.RunSays.{Means, run-means}
+use Rattle.engine.specs.StepsTo.{StepsTo, none-yet, one-more, reached, gets-there, run-gets-there}
+
+-- with code 25 the next goal's image stands at the front
+went-by : {P : Book} {q : Goal} {area after : List ℕ} {r : Stepped} → StepSays P q area r after → r .code ≡ 25 → (h : Goal) × Next P q (r .clause) h × (take (r .bytes) after ≡ encodeGoal h)
+went-by (solved e) c = absurd (omega arith)
+went-by (stuck f g e n) c = absurd (omega arith)
+went-by (full k h n b) c = absurd (omega arith)
+went-by {area = area} (went k h n l m) c = (h, n, take-append-seam (encodeGoal h) (drop (length (encodeGoal h)) area))
+
+-- with code 23 the budget is used up
+spent-all : {P : Book} {budget steps : ℕ} {g : Goal} {c n : ℕ} → Means P budget steps g c n → c ≡ 23 → steps ≡ budget
+spent-all (RunSays.solved e) k = absurd (omega arith)
+spent-all (RunSays.loop f g e y) k = absurd (omega arith)
+spent-all (RunSays.stuck f g e n) k = absurd (omega arith)
+spent-all (RunSays.spent j h n e) k = e
+spent-all (RunSays.full j h n l b) k = absurd (omega arith)
+
+-- bytes that are a good query, and the goal that they are the image of
+pub record GoodQuery (image : List ℕ) (g : Goal) : Type 0 where
+  pub good : GoodGoal g
+  pub is : encodeGoal g ≡ image
+  pub reads : goalOf image ≡ g
+  pub checked : queryVerdict image .code ≡ 0
+
+good-query : (image : List ℕ) (g : Goal) → GoodGoal g → encodeGoal g ≡ image → GoodQuery image g
+good-query image g good is = record {
+  good = good;
+  is = is;
+  reads = ap goalOf (inv is) ∙ goalOf-image g good;
+  checked = ap (λ i. queryVerdict i .code) (inv is) ∙ ap (λ (c : Check). c .code) (query-written g good);
+}
+
+module _ (book query : List ℕ) (book-bytes : Bytes book) (query-bytes : Bytes query) (book-good : bookVerdict book .code ≡ 0) (query-good : queryVerdict query .code ≡ 0) where
+  abbrev P : Book
+  P = bookOf book
+
+  abbrev q : Goal
+  q = goalOf query
+
+  good-P : GoodBook P × (encodeBook P ≡ book)
+  good-P = bookOf-good book book-bytes book-good
+
+  good-q : GoodGoal q × (encodeGoal q ≡ query)
+  good-q = goalOf-good query query-bytes query-good
+
+  as-images : (t : ℕ) (image : List ℕ) → StepsTo (encodeBook P) (encodeGoal q) t image ≡ StepsTo book query t image
+  as-images t image = ap₂ (λ b g. StepsTo b g t image) (good-P .1) (good-q .1)
+
+  -- t steps lead to the image of the path's goal at t, a good query
+  pub steps-path : (t : ℕ) (image : List ℕ) → StepsTo book query t image → (g : Goal) × (goal-at P q t ≡ some g) × GoodQuery image g
+  steps-path t image s = let r = reached P (good-P .0) q (good-q .0) (transport (inv (as-images t image)) s) in (r .goal, r .at, good-query image (r .goal) (r .good) (r .is))
+
+  -- and to no other bytes, whatever areas are lent
+  pub steps-one : (t : ℕ) (image image′ : List ℕ) → StepsTo book query t image → StepsTo book query t image′ → image ≡ image′
+  steps-one t image image′ s s′ =
+      let r = steps-path t image s in
+      let r′ = steps-path t image′ s′ in
+      inv (r .2 .is) ∙ ap encodeGoal (Option·some-injective (r .0) (r′ .0) (inv (r .1) ∙ r′ .1)) ∙ r′ .2 .is
+
+  module _ (area : List ℕ) where
+    -- what a step with code 25 writes is the image of the next goal, by the clause that it names, and a good query: the next step's
+    pub step-again : stepAnswer book query area .code ≡ 25 → let r = stepAnswer book query area in
+        (h : Goal) × Next P q (r .clause) h × GoodQuery (take (r .bytes) (stepArea book query area)) h
+    step-again c =
+        let w = went-by (step-says book query area book-bytes query-bytes (step-taken book query area (omega (arith, c))) (stepAnswer book query area) (stepArea book query area) .0 (refl, refl)) c in
+        let r = steps-path 1 (take (stepAnswer book query area .bytes) (stepArea book query area)) (one-more none-yet area c) in
+        let there = path-next P (book-clauses P (good-P .0)) q (goal-premises q (good-q .0) .0) 0 q (w .0) (path-zero (next-goal P) q) .1 (stepAnswer book query area .clause, w .1) in
+        (w .0, w .1, subst (GoodQuery (take (stepAnswer book query area .bytes) (stepArea book query area))) (Option·some-injective (r .0) (w .0) (inv (r .1) ∙ there)) (r .2))
+
+    -- that goal is the one that document 000's resolution gives
+    pub step-derives : stepAnswer book query area .code ≡ 25 → let r = stepAnswer book query area in
+        (h : Goal) × Derived P q (r .clause) h × GoodQuery (take (r .bytes) (stepArea book query area)) h
+    step-derives c =
+        let s = step-again c in
+        (s .0, derived-iff P (book-atomic P (good-P .0)) q (goal-atomics q (good-q .0)) (stepAnswer book query area .clause) (s .0) .1 (s .1), s .2)
+
+    module _ (long : 16387 ≤ length area) where
+      -- so many steps can be taken as there is room for
+      pub path-steps : (t : ℕ) (g : Goal) → goal-at P q t ≡ some g → Roomy P q t → StepsTo book query t (encodeGoal g)
+      path-steps t g e room = transport (as-images t (encodeGoal g)) (gets-there P (good-P .0) q (good-q .0) area long t g e room)
+
+      -- a run leaves what as many single steps write, with whatever code it closes
+      pub run-is-steps : (budget : ℕ) → let r = runAnswer book query budget area in StepsTo book query (r .steps) (take (r .bytes) (runArea book query budget area))
+      run-is-steps budget =
+          subst (λ b. StepsTo b query (runAnswer b query budget area .steps) (take (runAnswer b query budget area .bytes) (runArea b query budget area))) (good-P .1)
+          (subst (λ g. StepsTo (encodeBook P) g (runAnswer (encodeBook P) g budget area .steps) (take (runAnswer (encodeBook P) g budget area .bytes) (runArea (encodeBook P) g budget area))) (good-q .1)
+          (run-gets-there P (good-P .0) q (good-q .0) area long budget))
+
+      -- so its image is a good query too, of the path's goal there
+      pub run-leaves : (budget : ℕ) → let r = runAnswer book query budget area in (g : Goal) × (goal-at P q (r .steps) ≡ some g) × GoodQuery (take (r .bytes) (runArea book query budget area)) g
+      run-leaves budget = let r = runAnswer book query budget area in steps-path (r .steps) (take (r .bytes) (runArea book query budget area)) (run-is-steps budget)
+
+      -- where it closes with 23, these are as many as the budget
+      pub run-spends : (budget : ℕ) → let r = runAnswer book query budget area in r .code ≡ 23 → StepsTo book query budget (take (r .bytes) (runArea book query budget area))
+      run-spends budget c = subst (λ t. StepsTo book query t (take (runAnswer book query budget area .bytes) (runArea book query budget area)))
+          (spent-all (run-means book query budget area book-bytes query-bytes (omega (arith, c)) .means) c) (run-is-steps budget)
