@@ -1,0 +1,77 @@
+-- What a refusal says, of bytes and in plain figures: "Order: area; whole book; whole query." "Codes 1 to 19 refuse the input .. and give steps, span, bytes and every count 0."
+-- "An entry that refuses its input changes nothing in any lent area". A fault of a book or a query is told by what books and queries are (records, Faulty).
+use Prim.Native.Nat.{ℕ, _≤_, _<_}
+use native.Mathlib.Omega.{arith}
+use native.Mathlib.Decide.{decLt, ℕ-discrete}
+use mathlib.Core.Path.{_≡_, refl, sym as inv, ap, _∙_, subst}
+use mathlib.Core.List.{List}
+use lib.ListN.{length}
+use Rattle.records.specs.declared.state.Form.the-variants.{Book, Query}
+use Rattle.records.specs.Reading.{bookVerdict, queryVerdict}
+use Rattle.records.specs.Format.{Bytes}
+use Rattle.records.specs.Faulty.{Faulty, Good}
+use Rattle.records.proofs.Meaning.{book-good}
+use Rattle.records.proofs.Refusals.{refused-iff}
+use Rattle.engine.specs.declared.Answer.{Answer}
+use Rattle.engine.specs.declared.Stepped.{Stepped}
+use Rattle.engine.specs.declared.admit.Admitted.{Admitted}
+use Rattle.engine.specs.Outcome.{refusal, refused, runAnswer, runArea, stepRefused, stepAnswer, stepArea}
+use Rattle.engine.specs.Refusals.{area-short, book-decides, query-decides}
+use Rattle.engine.specs.Listed.{step-high, run-high}
+use Rattle.engine.specs.Stepping as Stepping
+use Rattle.engine.specs.Running as Running
+
+-- an entry that is lent so much room refuses with a code and a place
+pub data RefusalSays (book query : List ℕ) (room : ℕ) : ℕ → ℕ → Type 0 where
+  -- "Goal area: at least 16,387 bytes."
+  short : room < 16387 → RefusalSays book query room 1 0
+  bad-book : {code place : ℕ} → 16387 ≤ room → Faulty Book book code place → RefusalSays book query room code place
+  bad-query : {code place : ℕ} → 16387 ≤ room → Good Book book → Faulty Query query code place → RefusalSays book query room code place
+
+module _ (book query : List ℕ) (book-bytes : Bytes book) (query-bytes : Bytes query) where
+  -- what refuses is said
+  said : (room : ℕ) → (refusal book query room .code ≡ 0 → ⊥) → RefusalSays book query room (refusal book query room .code) (refusal book query room .place)
+  said room n = elim (decLt room 16387) [
+    | yes s ↦ rw (area-short book query room s) (short s)
+    | no s ↦
+        let long : 16387 ≤ room = omega arith in
+        elim (ℕ-discrete (bookVerdict book .code) 0) [
+          | yes z ↦
+              let e = query-decides book query room long z in
+              subst (λ (r : Admitted). RefusalSays book query room (r .code) (r .place)) (inv e)
+              (bad-query long (book-good book book-bytes .0 z) (refused-iff Query query query-bytes (queryVerdict query .code) (queryVerdict query .place) .0 (λ w. n (ap (λ (r : Admitted). r .code) e ∙ w), refl, refl)))
+          | no m ↦ rw (book-decides book query room long m) (bad-book long (refused-iff Book book book-bytes (bookVerdict book .code) (bookVerdict book .place) .0 (m, refl, refl)))
+        ]
+  ]
+
+  -- and what is said refuses
+  refuses : (room : ℕ) {code place : ℕ} → RefusalSays book query room code place → (code ≡ 0 → ⊥) × (refusal book query room ≡ record { code = code; place = place })
+  refuses room (short s) = ((λ z. omega arith), area-short book query room s)
+  refuses room (bad-book {code} {place} long f) =
+      let a = refused-iff Book book book-bytes code place .1 f in
+      (a .0, book-decides book query room long (λ z. a .0 (inv (a .1) ∙ z)) ∙ (λ i. record { code = a .1 i; place = a .2 i }))
+  refuses room (bad-query {code} {place} long g f) =
+      let a = refused-iff Query query query-bytes code place .1 f in
+      (a .0, query-decides book query room long (book-good book book-bytes .1 g) ∙ (λ i. record { code = a .1 i; place = a .2 i }))
+
+  module _ (area : List ℕ) {code place : ℕ} (s : RefusalSays book query (length area) code place) where
+    not-taken : refusal book query (length area) .code ≡ 0 → ⊥
+    not-taken z = let r = refuses (length area) s in r .0 (inv (ap (λ (r : Admitted). r .code) (r .1)) ∙ z)
+
+    pub run-refused : (budget : ℕ) → (runAnswer book query budget area ≡ record { code = code; place = place; steps = 0; span = 0; bytes = 0 }) × (runArea book query budget area ≡ area)
+    run-refused budget = (Running.answer-refused book query budget area not-taken ∙ ap refused (refuses (length area) s .1), Running.area-refused book query budget area not-taken)
+
+    pub step-refused : (stepAnswer book query area ≡ record { code = code; place = place; steps = 0; span = 0; bytes = 0; clause = 0 }) × (stepArea book query area ≡ area)
+    step-refused = (Stepping.answer-refused book query area not-taken ∙ ap stepRefused (refuses (length area) s .1), Stepping.area-refused book query area not-taken)
+
+  module _ (area : List ℕ) where
+    -- a code below 20 says so
+    pub run-refusal : (budget : ℕ) → runAnswer book query budget area .code < 20 → RefusalSays book query (length area) (runAnswer book query budget area .code) (runAnswer book query budget area .place)
+    run-refusal budget l =
+        let n : refusal book query (length area) .code ≡ 0 → ⊥ = λ z. omega (arith, l, run-high book query area budget z) in
+        subst (λ (a : Answer). RefusalSays book query (length area) (a .code) (a .place)) (inv (Running.answer-refused book query budget area n)) (said (length area) n)
+
+    pub step-refusal : stepAnswer book query area .code < 20 → RefusalSays book query (length area) (stepAnswer book query area .code) (stepAnswer book query area .place)
+    step-refusal l =
+        let n : refusal book query (length area) .code ≡ 0 → ⊥ = λ z. omega (arith, l, step-high book query area z) in
+        subst (λ (a : Stepped). RefusalSays book query (length area) (a .code) (a .place)) (inv (Stepping.answer-refused book query area n)) (said (length area) n)
