@@ -1,182 +1,140 @@
--- Variants are renamed copies in document 000's sense: a permutation of finitely many variables takes the one to the other.
-use Prim.Native.Nat.{ℕ, suc, max}
+-- Document 000's renamings are the permutations of finitely many variables, and its variants are those of Rename: "When θ is a renaming substitution then Eθ is called a
+-- variant of E."
+use Prim.Native.Nat.{ℕ, _<_}
+use native.Mathlib.Decide.{decLt}
 use native.Mathlib.Omega.{arith}
 use mathlib.Core.Path.{_≡_, refl, sym as inv, ap, _∙_}
-use mathlib.Core.Logic.{_⊎_, inl, inr, _↔_}
+use mathlib.Core.Logic.{_↔_}
 use mathlib.Core.List.{List, [], _∷_, map, map-map, map-id, head-eq-of-cons-eq}
-use Rattle.terms.specs.Node.{var, sym, Expr, same-number}
+use Rattle.terms.specs.Node.{Expr, same-expr}
 use Rattle.terms.specs.Row.{row-end, row-var}
-use Rattle.terms.specs.Subst.{In, In-any}
-use Rattle.terms.specs.Substitution.{Substitution}
-use Rattle.terms.specs.Rename.{rename, Variant, Variants, Injective-on}
-use Rattle.terms.specs.Renaming.{Renaming}
-use Rattle.terms.specs.SubstLaws.{map-same, map-on}
-use Rattle.terms.specs.RenameLaws.{names, rename-rename, rename-idle, rename-on}
+use Rattle.terms.specs.Subst.{Subst, apply, itself}
+use Rattle.terms.specs.Rename.{rename, Variant, Variants}
+use Rattle.terms.specs.Renaming.{Renaming, Permutation}
+use Rattle.terms.specs.SubstLaws.{apply-on, map-same, map-on}
+use Rattle.terms.specs.RenameLaws.{names, rename-apply, rename-rename, rename-idle, rename-on}
+use Rattle.terms.specs.PermutationLaws.{permutation-injective, permuted, none-left-out}
 use Rattle.terms.specs.VariantLaws.{variants-injective}
 
--- a renaming is a substitution of document 000
-pub renaming-substitution : (ρ : ℕ → ℕ) → Renaming ρ → Substitution (names ρ)
-renaming-substitution ρ r = record { terms = λ v. (row-var row-end, tt); bound = r .bound; finite = λ v l. ap (λ n. var n ∷ []) (r .finite v l) }
+one-variable : (v w : ℕ) → itself v ≡ itself w → v ≡ w
+one-variable v w e = cc
 
-pub renaming-injective : (ρ : ℕ → ℕ) → Renaming ρ → (v w : ℕ) → ρ v ≡ ρ w → v ≡ w
-renaming-injective ρ r v w e = inv (r .home v) ∙ ap (r .inverse) e ∙ r .home w
-
--- Two variables exchanged.
-
-abbrev exchange-by : (a b v : ℕ) → Dec (v ≡ a) → Dec (v ≡ b) → ℕ
-exchange-by a b v (yes p) d = b
-exchange-by a b v (no p) (yes q) = a
-exchange-by a b v (no p) (no q) = v
-
-abbrev exchange : ℕ → ℕ → ℕ → ℕ
-exchange a b v = exchange-by a b v (same-number v a) (same-number v b)
-
-module _ (a b : ℕ) where
-  exchange-first : (v : ℕ) → v ≡ a → exchange a b v ≡ b
-  exchange-first v e = go (same-number v a) (same-number v b)
-    where
-      go : (d : Dec (v ≡ a)) (d′ : Dec (v ≡ b)) → exchange-by a b v d d′ ≡ b
-      go (yes p) d′ = refl
-      go (no p) d′ = absurd (p e)
-
-  exchange-second : (v : ℕ) → v ≡ b → exchange a b v ≡ a
-  exchange-second v e = go (same-number v a) (same-number v b)
-    where
-      go : (d : Dec (v ≡ a)) (d′ : Dec (v ≡ b)) → exchange-by a b v d d′ ≡ a
-      go (yes p) d′ = inv e ∙ p
-      go (no p) (yes q) = refl
-      go (no p) (no q) = absurd (q e)
-
-  exchange-other : (v : ℕ) → ¬ (v ≡ a) → ¬ (v ≡ b) → exchange a b v ≡ v
-  exchange-other v m n = go (same-number v a) (same-number v b)
-    where
-      go : (d : Dec (v ≡ a)) (d′ : Dec (v ≡ b)) → exchange-by a b v d d′ ≡ v
-      go (yes p) d′ = absurd (m p)
-      go (no p) (yes q) = absurd (n q)
-      go (no p) (no q) = refl
-
-  -- twice is nothing
-  exchange-twice : (v : ℕ) → exchange a b (exchange a b v) ≡ v
-  exchange-twice v = go (same-number v a) (same-number v b)
-    where
-      go : Dec (v ≡ a) → Dec (v ≡ b) → exchange a b (exchange a b v) ≡ v
-      go (yes p) d = ap (exchange a b) (exchange-first v p) ∙ exchange-second b refl ∙ inv p
-      go (no p) (yes q) = ap (exchange a b) (exchange-second v q) ∙ exchange-first a refl ∙ inv q
-      go (no p) (no q) = ap (exchange a b) (exchange-other v p q) ∙ exchange-other v p q
-
--- An injective renaming of some variables goes on to a permutation.
-
--- one that does as ρ does where P holds
-record Agrees (ρ : ℕ → ℕ) (P : ℕ → Type 0) : Type 0 where
-  whole : ℕ → ℕ
-  renaming : Renaming whole
-  same : (v : ℕ) → P v → whole v ≡ ρ v
-
--- the identity
-unmoved : (ρ : ℕ → ℕ) (P : ℕ → Type 0) → ((v : ℕ) → P v → ⊥) → Agrees ρ P
-unmoved ρ P no-one = record {
-  whole = λ v. v;
-  renaming = record { inverse = λ v. v; home = λ v. refl; there = λ v. refl; bound = 0; finite = λ v l. refl };
-  same = λ v p. absurd (no-one v p);
+-- a permutation is a renaming
+pub permutation-renaming : (ρ : ℕ → ℕ) → Permutation ρ → Renaming (names ρ)
+permutation-renaming ρ r = record {
+  substitution = record { terms = λ v. (row-var row-end, tt); bound = r .bound; finite = λ v l. ap itself (r .finite v l) };
+  into = λ v m. (ρ v, (λ e. m (ap itself (permutation-injective ρ r (ρ v) v (one-variable (ρ (ρ v)) (ρ v) e)))), refl);
+  onto = λ w m.
+      let there = r .there w in
+      (r .inverse w, (λ e. m (ap itself (ap ρ (inv there ∙ one-variable (ρ (r .inverse w)) (r .inverse w) e) ∙ there))), ap itself there);
 }
 
--- one variable more: what went there before is exchanged with it
-one-more : (ρ : ℕ → ℕ) (P : ℕ → Type 0) (u : ℕ) → Injective-on (λ v. (v ≡ u) ⊎ P v) ρ → Agrees ρ P → Agrees ρ (λ v. (v ≡ u) ⊎ P v)
-one-more ρ P u inj g = record {
-  whole = λ v. exchange a b (π v);
-  renaming = record {
-    inverse = λ v. r .inverse (exchange a b v);
-    home = λ v. ap (r .inverse) (exchange-twice a b (π v)) ∙ r .home v;
-    there = λ v. ap (exchange a b) (r .there (exchange a b v)) ∙ exchange-twice a b v;
-    bound = max (r .bound) (max (suc a) (suc b));
-    finite = λ v l.
-        let e = r .finite v (omega arith) in
-        ap (exchange a b) e ∙ exchange-other a b v (λ p. omega arith) (λ p. omega arith);
-  };
-  same = λ v. elim [
-    | inl p ↦ exchange-first a b (π v) (ap π p) ∙ ap ρ (inv p)
-    | inr p ↦ other v p (same-number v u)
-  ];
-}
+-- And a renaming is a permutation.
+module _ (σ : Subst) (r : Renaming σ) where
+  moved? : (v : ℕ) → Dec (σ v ≡ itself v)
+  moved? v = same-expr (σ v) (itself v)
+
+  -- what becomes of a variable
+  abbrev becomes-by : (v : ℕ) → Dec (σ v ≡ itself v) → (w : ℕ) × (σ v ≡ itself w)
+  becomes-by v (yes e) = (v, e)
+  becomes-by v (no m) = let i = r .into v m in (i .0, i .2)
+
+  abbrev becomes : ℕ → ℕ
+  becomes v = becomes-by v (moved? v) .0
+
+  becomes-is : (v : ℕ) → σ v ≡ itself (becomes v)
+  becomes-is v = becomes-by v (moved? v) .1
+
+  -- and what it comes of
+  abbrev comes-by : (w : ℕ) → Dec (σ w ≡ itself w) → (v : ℕ) × (σ v ≡ itself w)
+  comes-by w (yes e) = (w, e)
+  comes-by w (no m) = let o = r .onto w m in (o .0, o .2)
+
+  abbrev comes-of : ℕ → ℕ
+  comes-of w = comes-by w (moved? w) .0
+
+  comes-is : (w : ℕ) → σ (comes-of w) ≡ itself w
+  comes-is w = comes-by w (moved? w) .1
+
+  -- no variable from here on is moved
+  abbrev reach : ℕ
+  reach = r .substitution .bound
+
+  -- each is undone by the other
+  there-and-back : (w : ℕ) → becomes (comes-of w) ≡ w
+  there-and-back w = one-variable (becomes (comes-of w)) w (inv (becomes-is (comes-of w)) ∙ comes-is w)
+
+  -- a variable that is left as it is comes of itself
+  comes-idle : (w : ℕ) → σ w ≡ itself w → comes-of w ≡ w
+  comes-idle w e = go (moved? w)
+    where
+      go : (d : Dec (σ w ≡ itself w)) → comes-by w d .0 ≡ w
+      go (yes p) = refl
+      go (no m) = absurd (m e)
+
+  comes-under : (w : ℕ) → w < reach → comes-of w < reach
+  comes-under w l = go (moved? w)
+    where
+      go : (d : Dec (σ w ≡ itself w)) → comes-by w d .0 < reach
+      go (yes e) = l
+      go (no m) = let o = r .onto w m in elim (decLt (o .0) (r .substitution .bound)) [ yes b ↦ b | no b ↦ absurd (o .1 (r .substitution .finite (o .0) (omega arith))) ]
+
+  back-and-there : (v : ℕ) → comes-of (becomes v) ≡ v
+  back-and-there v = go (decLt v reach)
+    where
+      go : Dec (v < reach) → comes-of (becomes v) ≡ v
+      go (yes l) =
+          let h = none-left-out reach comes-of comes-under (λ a b p q e. inv (there-and-back a) ∙ ap becomes e ∙ there-and-back b) v l in
+          ap (λ u. comes-of (becomes u)) (inv (h .1)) ∙ ap comes-of (there-and-back (h .0)) ∙ h .1
+      go (no l) =
+          let e = r .substitution .finite v (omega arith) in
+          ap comes-of (one-variable (becomes v) v (inv (becomes-is v) ∙ e)) ∙ comes-idle v e
+
+  pub renaming-permutation : (ρ : ℕ → ℕ) × Permutation ρ × ((v : ℕ) → σ v ≡ itself (ρ v))
+  renaming-permutation = (
+    becomes,
+    record { inverse = comes-of; home = back-and-there; there = there-and-back; bound = reach; finite = λ v l. one-variable (becomes v) v (inv (becomes-is v) ∙ r .substitution .finite v l) },
+    becomes-is,
+  )
+
+-- Variants are renamed copies, by a permutation and so by a renaming.
+
+pub variants-permuted : (g h : List Expr) → Variants g h ↔ ((ρ : ℕ → ℕ) × Permutation ρ × (map (rename ρ) g ≡ h))
+variants-permuted g h = (to, λ s. record { forth = s .0; back = s .1 .inverse; there = s .2; home = ap (map (rename (s .1 .inverse))) (inv (s .2)) ∙ undo (s .0) (s .1) })
   where
-    π : ℕ → ℕ
-    π = g .whole
-
-    r : Renaming π
-    r = g .renaming
-
-    a : ℕ
-    a = π u
-
-    b : ℕ
-    b = ρ u
-
-    other : (v : ℕ) → P v → Dec (v ≡ u) → exchange a b (π v) ≡ ρ v
-    other v p (yes e) = exchange-first a b (π v) (ap π e) ∙ ap ρ (inv e)
-    other v p (no n) =
-        exchange-other a b (π v) (λ e. n (renaming-injective π r v u e)) (λ e. n (inj v u (inr p) (inl refl) (inv (g .same v p) ∙ e)))
-        ∙ g .same v p
-
--- where less is asked
-agrees-less : {ρ : ℕ → ℕ} {P Q : ℕ → Type 0} → ((v : ℕ) → P v → Q v) → Agrees ρ Q → Agrees ρ P
-agrees-less less g = record { whole = g .whole; renaming = g .renaming; same = λ v p. g .same v (less v p) }
-
-module _ (P : ℕ → Type 0) (u : ℕ) (e : Expr) where
-  first-out : (v : ℕ) → In v (var u ∷ e) ⊎ P v → (v ≡ u) ⊎ (In v e ⊎ P v)
-  first-out v (inl (inl p)) = inl p
-  first-out v (inl (inr i)) = inr (inl i)
-  first-out v (inr p) = inr (inr p)
-
-  first-in : (v : ℕ) → (v ≡ u) ⊎ (In v e ⊎ P v) → In v (var u ∷ e) ⊎ P v
-  first-in v (inl p) = inl (inl p)
-  first-in v (inr (inl i)) = inl (inr i)
-  first-in v (inr (inr p)) = inr p
-
--- the variables of e more
-expr-more : (ρ : ℕ → ℕ) (P : ℕ → Type 0) (e : Expr) → Injective-on (λ v. In v e ⊎ P v) ρ → Agrees ρ P → Agrees ρ (λ v. In v e ⊎ P v)
-expr-more ρ P [] inj g = agrees-less (λ v. elim [ inl i ↦ absurd i | inr p ↦ p ]) g
-expr-more ρ P (sym s ∷ e) inj g = expr-more ρ P e inj g
-expr-more ρ P (var u ∷ e) inj g =
-    agrees-less (first-out P u e)
-    (one-more ρ (λ v. In v e ⊎ P v) u (λ v w i j. inj v w (first-in P u e v i) (first-in P u e w j))
-    (expr-more ρ P e (λ v w i j. inj v w (first-in P u e v (inr i)) (first-in P u e w (inr j))) g))
-
-agreeing : (ρ : ℕ → ℕ) (g : List Expr) → Injective-on (λ v. In-any v g) ρ → Agrees ρ (λ v. In-any v g)
-agreeing ρ [] inj = unmoved ρ (λ v. ⊥) (λ v i. i)
-agreeing ρ (f ∷ g) inj = expr-more ρ (λ v. In-any v g) f inj (agreeing ρ g (λ v w i j. inj v w (inr i) (inr j)))
-
--- a permutation that does as ρ does at the variables of g
-pub permuted : (ρ : ℕ → ℕ) (g : List Expr) → Injective-on (λ v. In-any v g) ρ → (π : ℕ → ℕ) × Renaming π × ((v : ℕ) → In-any v g → π v ≡ ρ v)
-permuted ρ g inj = let a = agreeing ρ g inj in (a .whole, a .renaming, a .same)
-
--- Variants are renamed copies.
-
--- "When θ is a renaming substitution then Eθ is called a variant of E", of goals
-pub variants-renamed : (g h : List Expr) → Variants g h ↔ ((ρ : ℕ → ℕ) × Renaming ρ × (map (rename ρ) g ≡ h))
-variants-renamed g h = (to, λ s. record { forth = s .0; back = s .1 .inverse; there = s .2; home = ap (map (rename (s .1 .inverse))) (inv (s .2)) ∙ undo (s .0) (s .1) })
-  where
-    to : Variants g h → (ρ : ℕ → ℕ) × Renaming ρ × (map (rename ρ) g ≡ h)
+    to : Variants g h → (ρ : ℕ → ℕ) × Permutation ρ × (map (rename ρ) g ≡ h)
     to s =
         let p = permuted (s .forth) g (variants-injective g h s) in
         (p .0, p .1, map-on (λ v. p .0 v ≡ s .forth v) (λ e same. rename-on (p .0) (s .forth) e same) g (p .2) ∙ s .there)
 
-    undo : (ρ : ℕ → ℕ) (r : Renaming ρ) → map (rename (r .inverse)) (map (rename ρ) g) ≡ g
+    undo : (ρ : ℕ → ℕ) (r : Permutation ρ) → map (rename (r .inverse)) (map (rename ρ) g) ≡ g
     undo ρ r =
         map-map (rename (r .inverse)) (rename ρ) g ∙ map-same (λ e. rename-rename (r .inverse) ρ e ∙ rename-idle (λ v. r .inverse (ρ v)) e (λ v i. r .home v)) g ∙ map-id g
 
--- and of expressions
-pub variant-renamed : (a b : Expr) → Variant a b ↔ ((ρ : ℕ → ℕ) × Renaming ρ × (rename ρ a ≡ b))
+pub variants-renamed : (g h : List Expr) → Variants g h ↔ ((σ : Subst) × Renaming σ × (map (apply σ) g ≡ h))
+variants-renamed g h = (to, from)
+  where
+    to : Variants g h → (σ : Subst) × Renaming σ × (map (apply σ) g ≡ h)
+    to s = let p = variants-permuted g h .0 s in (names (p .0), permutation-renaming (p .0) (p .1), map-same (λ e. inv (rename-apply (p .0) e)) g ∙ p .2)
+
+    from : ((σ : Subst) × Renaming σ × (map (apply σ) g ≡ h)) → Variants g h
+    from (σ, r, e) =
+        let p = renaming-permutation σ r in
+        variants-permuted g h .1 (p .0, p .1, map-same (λ d. rename-apply (p .0) d ∙ inv (apply-on σ (names (p .0)) d (λ v i. p .2 v))) g ∙ e)
+
+-- the same of expressions
+pub variant-renamed : (a b : Expr) → Variant a b ↔ ((σ : Subst) × Renaming σ × (apply σ a ≡ b))
 variant-renamed a b = (to, from)
   where
-    alone : Variants (a ∷ []) (b ∷ []) ↔ ((ρ : ℕ → ℕ) × Renaming ρ × (map (rename ρ) (a ∷ []) ≡ b ∷ []))
+    alone : Variants (a ∷ []) (b ∷ []) ↔ ((σ : Subst) × Renaming σ × (map (apply σ) (a ∷ []) ≡ b ∷ []))
     alone = variants-renamed (a ∷ []) (b ∷ [])
 
-    to : Variant a b → (ρ : ℕ → ℕ) × Renaming ρ × (rename ρ a ≡ b)
+    to : Variant a b → (σ : Subst) × Renaming σ × (apply σ a ≡ b)
     to s =
         let p = alone .0 (record { forth = s .forth; back = s .back; there = ap (λ e. e ∷ []) (s .there); home = ap (λ e. e ∷ []) (s .home) }) in
         (p .0, p .1, head-eq-of-cons-eq (p .2))
 
-    from : ((ρ : ℕ → ℕ) × Renaming ρ × (rename ρ a ≡ b)) → Variant a b
+    from : ((σ : Subst) × Renaming σ × (apply σ a ≡ b)) → Variant a b
     from s =
         let v = alone .1 (s .0, s .1, ap (λ e. e ∷ []) (s .2)) in
         record { forth = v .forth; back = v .back; there = head-eq-of-cons-eq (v .there); home = head-eq-of-cons-eq (v .home) }
