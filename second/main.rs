@@ -1,67 +1,74 @@
 // The second program: document 01 in the most direct style, with trees and a list of equations, written apart from the engine.
 //
-//   second           a line for each case: code, place, steps, span, bytes and a sum over the area; for some also the single step's
-//   second table     holds the first cases to the documents: the same bytes as their notation, and the results that they give
-//   second inputs    in the place of each answer, sums over what the case is made of
-//   second trace     reads what the program `trace` reads, and prints what it prints
-//   second pack N    reads a book and a query in document 01's notation, and writes them with budget N as `trace` reads them
-mod cases;
+//   second stream SEED COUNT   a stream of so many items, as the program `try_entries` reads them
+//   second stored              the stream that is stored beside that program
+//   second answers             reads a stream, and writes the lines that `try_entries` must write
+//   second item N              reads a stream, and shows its N-th item, from 1
+//   second table               holds the documents' cases to the results that the documents give
+//   second trace               reads what the program `trace` reads, and prints what it prints
+//   second pack N              reads a book and a query in document 01's notation, and writes them with budget N as `trace` reads them
+mod answers;
+mod build;
+mod chains;
+mod circles;
+mod deep;
+mod dice;
 mod image;
+mod item;
+mod list;
 mod notation;
 mod path;
 mod pen;
+mod period;
 mod play;
 mod random;
 mod read;
+mod rooms;
+mod stream;
 mod table;
 mod tree;
 mod unify;
 
-use cases::Case;
-use path::Answer;
-use std::io::{Read, Write};
+use item::Item;
+use std::io::{BufWriter, Read, Write};
 
-/// A sum in which each byte's place counts.
-fn sum(bytes: &[u8]) -> u32 {
-    bytes.iter().fold(1, |s, b| (s * 257 + *b as u64 + 1) % 2147483647) as u32
+type Done = Result<(), String>;
+
+fn written(items: &[Item]) -> Done {
+    let mut out = BufWriter::new(std::io::stdout());
+    items.iter().try_for_each(|item| out.write_all(&item.bytes())).and_then(|()| out.flush()).map_err(|e| e.to_string())
 }
 
-/// What an area holds before a run.
-fn pattern(size: usize) -> Vec<u8> {
-    (0..size).map(|i| (i * 7 % 251) as u8).collect()
-}
-
-type Run = fn(&[u8], &[u8], u32, &mut [u8]) -> Answer;
-type Step = fn(&[u8], &[u8], &mut [u8]) -> Answer;
-
-fn sums(book: &[u8], query: &[u8], budget: u32, area: &mut [u8]) -> Answer {
-    Answer { code: 0, place: area.len() as u32, steps: sum(book), span: sum(query), bytes: budget, clause: 0 }
-}
-
-fn step_sums(book: &[u8], query: &[u8], area: &mut [u8]) -> Answer {
-    sums(book, query, 0, area)
-}
-
-fn report(out: &mut impl Write, case: &Case, run: Run, step: Step) -> std::io::Result<()> {
-    let mut area = pattern(case.area);
-    let a = run(&case.book, &case.query, case.budget, &mut area);
-    writeln!(out, "{} {} {} {} {} {}", a.code, a.place, a.steps, a.span, a.bytes, sum(&area))?;
-    if case.step {
-        let mut area = pattern(case.area);
-        let a = step(&case.book, &case.query, &mut area);
-        writeln!(out, "{} {} {} {} {} {} {}", a.code, a.place, a.steps, a.span, a.bytes, a.clause, sum(&area))?;
+fn items(stream: &[u8]) -> Result<Vec<Item>, String> {
+    let (mut items, mut left) = (Vec::new(), stream);
+    while !left.is_empty() {
+        let (item, after) = Item::read(left).ok_or(format!("item {} is damaged", items.len() + 1))?;
+        items.push(item);
+        left = after;
     }
+    Ok(items)
+}
+
+fn answers(stream: &[u8]) -> Done {
+    let mut out = BufWriter::new(std::io::stdout());
+    for (n, item) in items(stream)?.iter().enumerate() {
+        let line = answers::line(item).map_err(|said| format!("item {}: {said}", n + 1))?;
+        writeln!(out, "{line}").map_err(|e| e.to_string())?;
+    }
+    out.flush().map_err(|e| e.to_string())
+}
+
+fn show(stream: &[u8], n: &str) -> Done {
+    let n: usize = n.parse().map_err(|_| "an item's number is from 1 on")?;
+    let items = items(stream)?;
+    let Item { entry, case } = items.get(n.wrapping_sub(1)).ok_or("there is no such item")?;
+    println!("{entry:?}, budget {}, area {} from {} by {}", case.budget, case.area.length, case.area.first, case.area.more);
+    println!("book {:02x?}\nquery {:02x?}", case.book, case.query);
     Ok(())
 }
 
-fn all(run: Run, step: Step) -> std::io::Result<()> {
-    let mut out = std::io::BufWriter::new(std::io::stdout());
-    cases::all().iter().try_for_each(|case| report(&mut out, case, run, step))?;
-    out.flush()
-}
-
-fn table() -> Result<(), String> {
-    let wrong = table::all_wrong(&cases::all());
+fn table() -> Done {
+    let wrong = table::all_wrong();
     if wrong.is_empty() { Ok(()) } else { Err(wrong.join("\n")) }
 }
 
@@ -95,21 +102,30 @@ fn input() -> Vec<u8> {
     bytes
 }
 
-fn packed(budget: &str) -> Result<(), String> {
+fn packed(budget: &str) -> Done {
     let budget = budget.parse().map_err(|_| "a budget is a number below 2^32")?;
     let bytes = pack(&String::from_utf8_lossy(&input()), budget)?;
     std::io::stdout().write_all(&bytes).map_err(|e| e.to_string())
 }
 
-fn chosen() -> Result<(), String> {
+fn long(seed: &str, count: &str) -> Done {
+    match (seed.parse(), count.parse()) {
+        (Ok(seed), Ok(count)) => written(&stream::long(seed, count)),
+        _ => Err("seed and count are numbers".to_string()),
+    }
+}
+
+fn chosen() -> Done {
     let words: Vec<String> = std::env::args().skip(1).collect();
     match words.iter().map(String::as_str).collect::<Vec<_>>()[..] {
-        [] => all(path::run, path::step).map_err(|e| e.to_string()),
+        ["stream", seed, count] => long(seed, count),
+        ["stored"] => written(&stream::short()),
+        ["answers"] => answers(&input()),
+        ["item", n] => show(&input(), n),
         ["table"] => table(),
-        ["inputs"] => all(sums, step_sums).map_err(|e| e.to_string()),
         ["trace"] => Ok(println!("{}", trace(&input()))),
         ["pack", budget] => packed(budget),
-        _ => Err("second [table | inputs | trace | pack BUDGET]".to_string()),
+        _ => Err("second stream SEED COUNT | stored | answers | item N | table | trace | pack BUDGET".to_string()),
     }
 }
 

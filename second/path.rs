@@ -16,7 +16,7 @@ pub struct Answer {
     pub clause: u32,
 }
 
-pub struct NoRoom;
+struct NoRoom;
 
 /// Writes a goal out anew under a solution: variables numbered by first appearance, at most 4,096 nodes.
 struct Copier<'a> {
@@ -76,6 +76,22 @@ fn next(clause: &Clause, apart: u32, solution: &Solution, goal: &Goal) -> Result
         made.push(copier.formula(formula)?);
     }
     if made.len() > 512 { Err(NoRoom) } else { Ok(made) }
+}
+
+pub enum Next {
+    Stuck,
+    NoRoom,
+    /// By a clause's number.
+    Goal(usize, Goal),
+}
+
+/// The goal after a goal that is not empty.
+pub fn next_goal(clauses: &[Clause], goal: &Goal) -> Next {
+    let Some((number, apart, solution)) = fitting(clauses, goal) else { return Next::Stuck };
+    match next(&clauses[number], apart, &solution, goal) {
+        Ok(goal) => Next::Goal(number, goal),
+        Err(NoRoom) => Next::NoRoom,
+    }
 }
 
 struct State {
@@ -163,7 +179,11 @@ pub fn step(book: &[u8], query: &[u8], area: &mut [u8]) -> Answer {
     if goal.is_empty() {
         return Answer { code: 20, ..Answer::default() };
     }
-    let Some((number, apart, solution)) = fitting(&clauses, &goal) else { return Answer { code: 22, ..Answer::default() } };
-    let Ok(goal) = next(&clauses[number], apart, &solution, &goal) else { return Answer { code: 24, ..Answer::default() } };
-    Answer { code: 25, place: 0, steps: 1, span: 0, bytes: write(&goal, area), clause: number as u32 }
+    match next_goal(&clauses, &goal) {
+        Next::Stuck => Answer { code: 22, ..Answer::default() },
+        Next::NoRoom => Answer { code: 24, ..Answer::default() },
+        Next::Goal(number, goal) => {
+            Answer { code: 25, place: 0, steps: 1, span: 0, bytes: write(&goal, area), clause: number as u32 }
+        }
+    }
 }

@@ -1,7 +1,7 @@
-// Document 01's table, the errors that look reasonable, and document 001's figure 1, from their own notation: the first cases of the list are the
-// same bytes, and their results are what the documents say.
-use crate::cases::Case;
+// Document 01's table, the errors that look reasonable, and document 001's figure 1, from their own notation, with the results that the documents give.
+use crate::dice::Dice;
 use crate::image;
+use crate::item::{Area, Case};
 use crate::notation::{Names, Text};
 use crate::path::{Answer, run};
 
@@ -72,11 +72,8 @@ fn rows() -> Vec<Row> {
 }
 
 /// What is wrong with a row, if anything is.
-fn wrong(row: &Row, case: &Case) -> Option<String> {
-    if (&row.book, &row.query, row.budget, 16387) != (&case.book, &case.query, case.budget, case.area) {
-        return Some(format!("{}: the list has another case", row.name));
-    }
-    let mut area = vec![170; case.area];
+fn wrong(row: &Row) -> Option<String> {
+    let mut area = vec![170; 16387];
     let a = run(&row.book, &row.query, row.budget, &mut area);
     let Answer { code, place, steps, span, bytes, .. } = a;
     if [code as u32, place, steps, span] != row.says {
@@ -88,6 +85,11 @@ fn wrong(row: &Row, case: &Case) -> Option<String> {
     }
 }
 
-pub fn all_wrong(cases: &[Case]) -> Vec<String> {
-    rows().iter().zip(cases).filter_map(|(row, case)| wrong(row, case)).collect()
+pub fn all_wrong() -> Vec<String> {
+    rows().iter().filter_map(wrong).collect()
+}
+
+pub fn cases(dice: &mut Dice) -> Vec<Case> {
+    let case = |Row { book, query, budget, .. }| Case { book, query, budget, area: Area::usual(dice) };
+    rows().into_iter().map(case).collect()
 }

@@ -3,6 +3,7 @@ use std::rc::Rc;
 
 pub type Tree = Rc<Term>;
 
+#[derive(PartialEq)]
 pub enum Term {
     Variable(u32),
     Constant(u16),
@@ -27,6 +28,16 @@ impl Formula {
     pub fn same_predicate(&self, other: &Formula) -> bool {
         self.predicate == other.predicate && self.arguments.len() == other.arguments.len()
     }
+}
+
+pub fn nodes(goal: &Goal) -> usize {
+    fn of(tree: &Tree) -> usize {
+        match &**tree {
+            Term::Compound(_, inner) => 1 + inner.iter().map(of).sum::<usize>(),
+            _ => 1,
+        }
+    }
+    goal.iter().map(|f| 1 + f.arguments.iter().map(of).sum::<usize>()).sum()
 }
 
 /// One more than the largest variable number of a goal: a clause whose numbers are moved up by it shares no variable with the goal.

@@ -1,0 +1,46 @@
+// The entries that are lent an area. Their items have: budget (4 bytes), of which a single step has no use; the area's length (4 bytes), its first
+// byte and what each byte has more than the one before it, modulo 256 (1 byte each); the book's length (4 bytes), the book, and the query.
+use crate::entries;
+use crate::number;
+
+fn next(byte: u8, more: u8) -> u8 {
+    std::num::wrapping_add_u8(byte, more)
+}
+
+// What an area holds before the call.
+fn fill(area: &mut [u8], first: u8, more: u8) {
+    let mut byte = first;
+    for i in 0..area.len() {
+        area[i] = byte;
+        byte = next(byte, more);
+    }
+}
+
+fn call(entry: u8, budget: u32, book: &[u8], query: &[u8], area: &mut [u8]) -> bool {
+    match entry {
+        3 => entries::step(book, query, area),
+        4 => entries::run(book, query, budget, area),
+        _ => entries::run_for_c(book, query, budget, area),
+    }
+}
+
+// Book and query one behind the other.
+fn apart(entry: u8, budget: u32, both: &[u8], book: usize, area: &mut [u8]) -> bool {
+    if both.len() < book {
+        return false;
+    }
+    call(entry, budget, &both[0..book], &both[book..], area)
+}
+
+pub fn entry(entry: u8, item: &[u8], area: &mut [u8]) -> bool {
+    if item.len() < 14 {
+        return false;
+    }
+    let length = number::at(item, 4) as usize;
+    if area.len() < length {
+        return false;
+    }
+    let lent = &mut area[0..length];
+    fill(lent, item[8], item[9]);
+    apart(entry, number::at(item, 0), &item[14..], number::at(item, 10) as usize, lent)
+}

@@ -1,0 +1,66 @@
+// Tries the entries on a stream of items from standard input, and writes a line for each: the answer's numbers and, where an area is lent, a sum
+// over all of its bytes.
+//
+// An item is its entry's number (1 byte), the length of what follows (4 bytes), and that: a book to check (1), a query to check (2), or what goes
+// to a single step (3), a run (4) and the run for C (5), as lent.rt has it. Numbers are most significant byte first. A stream that ends inside an
+// item, or has an item that is none of these, gets the line `damaged`, and no item after it is tried.
+mod entries;
+mod lent;
+mod number;
+mod print;
+
+use libc::STDIN_FILENO;
+use libc::STDOUT_FILENO;
+
+fn damaged() -> bool {
+    io::write_all(STDOUT_FILENO, b"damaged\n");
+    false
+}
+
+fn tried(entry: u8, item: &[u8], area: &mut [u8]) -> bool {
+    match entry {
+        1 => entries::check_book(item),
+        2 => entries::check_query(item),
+        3..=5 => lent::entry(entry, item, area),
+        _ => false,
+    }
+}
+
+// The rest of an item, of a length that was read before it.
+fn rest(entry: u8, length: usize, item: &mut [u8], area: &mut [u8]) -> bool {
+    if item.len() < length {
+        return damaged();
+    }
+    let n = io::read_full(STDIN_FILENO, &mut item[0..length]);
+    if n < length {
+        return damaged();
+    }
+    if tried(entry, &item[0..length], area) {
+        return true;
+    }
+    damaged()
+}
+
+// Whether another item may follow.
+fn one(item: &mut [u8], area: &mut [u8]) -> bool {
+    let mut first = [0u8; 5];
+    match io::read_full(STDIN_FILENO, &mut first) {
+        0 => false,
+        5 => rest(first[0], number::at(&first, 1) as usize, item, area),
+        _ => damaged(),
+    }
+}
+
+fn all(item: &mut [u8], area: &mut [u8]) {
+    for i in 0..4294967295u32 {
+        if !one(item, area) {
+            return;
+        }
+    }
+}
+
+fn main() {
+    let mut item = [0u8; 98304];
+    let mut area = [0u8; 40960];
+    all(&mut item, &mut area);
+}

@@ -1,0 +1,89 @@
+// The items of a stream, as the program `try_entries` reads them.
+use crate::dice::Dice;
+
+/// What an entry with a goal area is called with.
+#[derive(Clone)]
+pub struct Case {
+    pub book: Vec<u8>,
+    pub query: Vec<u8>,
+    pub budget: u32,
+    pub area: Area,
+}
+
+/// An area's length and what it holds before the call: its first byte, and what each byte has more than the one before it.
+#[derive(Clone, Copy)]
+pub struct Area {
+    pub length: usize,
+    pub first: u8,
+    pub more: u8,
+}
+
+impl Area {
+    /// The shortest that is long enough, with any bytes.
+    pub fn usual(dice: &mut Dice) -> Area {
+        Area { length: 16387, first: dice.below(256) as u8, more: dice.below(256) as u8 }
+    }
+
+    pub fn bytes(&self) -> Vec<u8> {
+        (0..self.length).map(|i| self.first.wrapping_add(self.more.wrapping_mul(i as u8))).collect()
+    }
+}
+
+#[derive(Clone, Copy, PartialEq, Debug)]
+pub enum Entry {
+    CheckBook = 1,
+    CheckQuery,
+    Step,
+    Run,
+    RunForC,
+}
+
+pub const ENTRIES: [Entry; 5] = [Entry::CheckBook, Entry::CheckQuery, Entry::Step, Entry::Run, Entry::RunForC];
+
+/// A check of a book has no use for the query, nor for budget and area; the others likewise.
+pub struct Item {
+    pub entry: Entry,
+    pub case: Case,
+}
+
+fn four(number: usize) -> [u8; 4] {
+    (number as u32).to_be_bytes()
+}
+
+fn number(bytes: &[u8]) -> usize {
+    bytes.iter().fold(0, |n, b| n * 256 + *b as usize)
+}
+
+impl Item {
+    pub fn bytes(&self) -> Vec<u8> {
+        let Case { book, query, budget, area } = &self.case;
+        let rest = match self.entry {
+            Entry::CheckBook => book.clone(),
+            Entry::CheckQuery => query.clone(),
+            _ => {
+                [&budget.to_be_bytes()[..], &four(area.length), &[area.first, area.more], &four(book.len()), book, query].concat()
+            }
+        };
+        [&[self.entry as u8][..], &four(rest.len()), &rest].concat()
+    }
+
+    /// An item from the front of a stream, and the stream after it.
+    pub fn read(stream: &[u8]) -> Option<(Item, &[u8])> {
+        let entry = *ENTRIES.iter().find(|e| **e as u8 == stream[0])?;
+        let length = number(stream.get(1..5)?);
+        let (rest, after) = (stream.get(5..5 + length)?, &stream[5 + length..]);
+        let mut case = Case { book: Vec::new(), query: Vec::new(), budget: 0, area: Area { length: 0, first: 0, more: 0 } };
+        match entry {
+            Entry::CheckBook => case.book = rest.to_vec(),
+            Entry::CheckQuery => case.query = rest.to_vec(),
+            _ => {
+                let book = number(rest.get(10..14)?);
+                case.budget = number(&rest[..4]) as u32;
+                case.area = Area { length: number(&rest[4..8]), first: rest[8], more: rest[9] };
+                case.book = rest.get(14..14 + book)?.to_vec();
+                case.query = rest[14 + book..].to_vec();
+            }
+        }
+        Some((Item { entry, case }, after))
+    }
+}

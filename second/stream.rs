@@ -1,0 +1,108 @@
+// Streams of items: the documents' cases, the lists, inputs cut and changed at every byte, and then inputs at random.
+use crate::chains;
+use crate::circles;
+use crate::deep;
+use crate::dice::Dice;
+use crate::item::{Area, Case, ENTRIES, Entry, Item};
+use crate::list::{self, Line};
+use crate::path::run;
+use crate::rooms;
+use crate::table;
+
+fn at_all_entries(cases: Vec<Case>) -> impl Iterator<Item = Item> {
+    cases.into_iter().flat_map(|case| ENTRIES.map(|entry| Item { entry, case: case.clone() }))
+}
+
+/// Cut at every byte, with a byte more, and with each byte changed to the kinds and the limits.
+fn at_every_byte(bytes: &[u8]) -> Vec<Vec<u8>> {
+    let mut all: Vec<Vec<u8>> = (0..bytes.len()).map(|n| bytes[..n].to_vec()).collect();
+    for place in 0..=bytes.len() {
+        for byte in [0, 1, 2, 3, 4, 5, 6, 7, 8, 9, 17, 64, 255] {
+            let mut other = bytes.to_vec();
+            if place < bytes.len() {
+                other[place] = byte
+            } else {
+                other.push(byte)
+            }
+            all.push(other);
+        }
+    }
+    all
+}
+
+/// The same of a case's book and of its query, at the checks and as short runs.
+fn damaged(case: &Case) -> Vec<Item> {
+    let case = Case { budget: 20, ..case.clone() };
+    let books = at_every_byte(&case.book).into_iter().map(|book| (Entry::CheckBook, Case { book, ..case.clone() }));
+    let queries = at_every_byte(&case.query).into_iter().map(|query| (Entry::CheckQuery, Case { query, ..case.clone() }));
+    books.chain(queries).flat_map(|(check, case)| [check, Entry::Run].map(|entry| Item { entry, case: case.clone() })).collect()
+}
+
+/// A line by the weights.
+fn weighted<'a>(lines: &'a [Line], dice: &mut Dice) -> &'a Line {
+    let mut left = dice.below(lines.iter().map(Line::weight).sum());
+    for line in lines {
+        if left < line.weight() {
+            return line;
+        }
+        left -= line.weight();
+    }
+    unreachable!("the weights are summed up")
+}
+
+fn random_case(lines: &[Line], dice: &mut Dice) -> Case {
+    let mut case = match dice.below(64) {
+        0..16 => deep::random(dice),
+        16..26 => chains::random(dice),
+        26..36 => circles::random(dice),
+        36 => rooms::random(dice),
+        _ => weighted(lines, dice).case(0, dice),
+    };
+    if dice.once_in(20) {
+        case.area = Area { length: [0, 16386, 16388, 20000, 40960][dice.below(5) as usize], ..case.area };
+    }
+    case
+}
+
+/// The case at one entry, or as runs with budgets around its closing step.
+fn random_items(lines: &[Line], dice: &mut Dice) -> Vec<Item> {
+    let case = random_case(lines, dice);
+    if dice.once_in(8) {
+        let t = run(&case.book, &case.query, case.budget.min(300), &mut [0; 16387]).steps;
+        let budgets = [t.saturating_sub(1), t, t + 1];
+        return budgets.map(|budget| Item { entry: Entry::Run, case: Case { budget, ..case.clone() } }).into();
+    }
+    let entry = match dice.below(16) {
+        0 => Entry::CheckBook,
+        1 => Entry::CheckQuery,
+        2..7 => Entry::Step,
+        7..14 => Entry::Run,
+        _ => Entry::RunForC,
+    };
+    vec![Item { entry, case }]
+}
+
+/// So many items, from a seed: first those that are always there.
+pub fn long(seed: u64, count: usize) -> Vec<Item> {
+    let mut dice = Dice::new(seed);
+    let documents = table::cases(&mut dice);
+    let mut items: Vec<Item> =
+        documents.iter().filter(|case| case.query.len() > 9 && case.query.len() < 20).flat_map(damaged).collect();
+    items.extend(at_all_entries(documents));
+    items.extend(at_all_entries(list::cases(list::SMALL, &mut dice)));
+    items.extend(at_all_entries(list::cases(list::SIZES, &mut dice)));
+    let lines = list::lines(list::RANDOM);
+    while items.len() < count {
+        items.extend(random_items(&lines, &mut dice));
+    }
+    items.truncate(count);
+    items
+}
+
+/// The documents' cases, the short list, and some items of each other sort that are short.
+pub fn short() -> Vec<Item> {
+    let mut dice = Dice::new(1);
+    let mut items: Vec<Item> = at_all_entries(table::cases(&mut dice)).collect();
+    items.extend(at_all_entries(list::cases(list::SMALL, &mut dice)));
+    items
+}
