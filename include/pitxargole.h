@@ -2,7 +2,6 @@
 #ifndef PITXARGOLE_H
 #define PITXARGOLE_H
 
-#include <stddef.h>
 #include <stdint.h>
 
 #ifdef __cplusplus
@@ -32,17 +31,14 @@ extern "C" {
 #define PITXARGOLE_ROOM 24   /* the next goal has over 512 formulas or 4,096 nodes */
 
 /* Runs the query by the book for at most `budget` steps. Every book and query, however damaged, gets one answer. The pointers are not
-   null, also where a length is 0, and `area` overlaps neither book nor query. */
-uint64_t pitxargole_run(uint32_t budget, const uint8_t *book, size_t book_length, const uint8_t *query, size_t query_length, uint8_t *area,
-                        size_t area_length);
+   null, also where a length is 0, and `area` overlaps neither book nor query. Lengths have 64 bits on every processor. */
+uint64_t pitxargole_run(uint32_t budget, const uint8_t *book, uint64_t book_length, const uint8_t *query, uint64_t query_length, uint8_t *area,
+                        uint64_t area_length);
 
-/* The parts of the answer. */
-static inline uint8_t pitxargole_code(uint64_t answer) { return (uint8_t)(answer & 0xff); }
-
-/* the place of the first fault for codes 1 to 19, and the bytes written otherwise */
-static inline uint32_t pitxargole_place_or_bytes(uint64_t answer) { return (uint32_t)(answer >> 8 & 0xffffff); }
-
-static inline uint32_t pitxargole_steps(uint64_t answer) { return (uint32_t)(answer >> 32); }
+/* The parts of the answer, by the engine's own proved functions: */
+uint8_t pitxargole_code(uint64_t answer);
+uint32_t pitxargole_place_or_bytes(uint64_t answer); /* the place of the first fault for codes 1 to 19, and the bytes written otherwise */
+uint32_t pitxargole_steps(uint64_t answer);
 
 #ifdef __cplusplus
 }

@@ -34,14 +34,15 @@ impl Copier<'_> {
     fn tree(&mut self, tree: &Tree) -> Result<Tree, NoRoom> {
         self.another_node()?;
         let value = self.solution.value(tree);
-        Ok(Rc::new(match &*value {
+        match &*value {
             Term::Variable(number) => {
                 let next = self.names.len() as u32;
-                Term::Variable(*self.names.entry(*number).or_insert(next))
+                let name = *self.names.entry(*number).or_insert(next);
+                Ok(if name == *number { value } else { Rc::new(Term::Variable(name)) })
             }
-            Term::Constant(symbol) => Term::Constant(*symbol),
-            Term::Compound(symbol, inner) => Term::Compound(*symbol, self.trees(inner)?),
-        }))
+            Term::Constant(_) => Ok(value),
+            Term::Compound(symbol, inner) => Ok(Rc::new(Term::Compound(*symbol, self.trees(inner)?))),
+        }
     }
 
     fn trees(&mut self, trees: &[Tree]) -> Result<Vec<Tree>, NoRoom> {

@@ -99,10 +99,17 @@ pub fn long(seed: u64, count: usize) -> Vec<Item> {
     items
 }
 
-/// The documents' cases, the short list, and some items of each other sort that are short.
+/// The documents' cases, the short list, and short items at random.
 pub fn short() -> Vec<Item> {
     let mut dice = Dice::new(1);
     let mut items: Vec<Item> = at_all_entries(table::cases(&mut dice)).collect();
     items.extend(at_all_entries(list::cases(list::SMALL, &mut dice)));
+    let lines = list::lines(list::RANDOM);
+    let count = items.len() + 300;
+    while items.len() < count {
+        items.extend(
+            random_items(&lines, &mut dice).into_iter().filter(|item| item.case.book.len() + item.case.query.len() < 400),
+        );
+    }
     items
 }

@@ -1,4 +1,5 @@
-/* cost SHAPE NODES STEPS: a run from a goal of so many nodes that is stuck at once (0), or after one step, at a goal of as many nodes (1). */
+/* cost SHAPE SIZE STEPS: a run from a goal of so many nodes (or levels) that is stuck at once (0), or after one step, at a goal of as many nodes (1). */
+#include <stddef.h>
 #include <stdlib.h>
 #include <string.h>
 
@@ -41,14 +42,14 @@ static void compound(unsigned number, int arity) { record(3, number, arity); }
 static void formula(unsigned number, int arity) { record(4, number, arity); }
 static void goal(unsigned formulas) { record(6, formulas, -1); }
 
-/* p(X,Y,..) :- q(X,Y,..), or the same with one variable; a run of no step has s in the place of p. */
-static void rule(int arity, int same) {
+/* A rule for p with q as its body, and a letter for each argument's variable; a run of no step has s in the place of p. */
+static void rule(const char *head, const char *body) {
     book[0] = 5;
     book[1] = 1;
-    for (unsigned side = 0; side < 2; side++) {
-        formula(side ? 2 : steps ? 1 : 4, arity);
-        for (int i = 0; i < arity; i++) variable(same ? 0 : (unsigned)i);
-    }
+    formula(steps ? 1 : 4, (int)strlen(head));
+    for (; *head; head++) variable((unsigned)(*head - 'a'));
+    formula(2, (int)strlen(body));
+    for (; *body; body++) variable((unsigned)(*body - 'a'));
     book_length = 2 + query_length;
     memcpy(book + 2, query, query_length);
     book[book_length++] = 7;
@@ -57,7 +58,7 @@ static void rule(int arity, int same) {
 
 /* p(f(f(..a))) by p(X) :- q(X) */
 static void deep(unsigned nodes) {
-    rule(1, 0);
+    rule("a", "a");
     goal(1);
     formula(1, 1);
     for (unsigned i = 2; i < nodes; i++) compound(1, 1);
@@ -66,7 +67,7 @@ static void deep(unsigned nodes) {
 
 /* p(a,a,a,a,a,a,V), p(a,a,a,a,a,a,W), .. by p(S,..,Y) :- q(S,..,Y) */
 static void wide(unsigned nodes) {
-    rule(7, 0);
+    rule("abcdefg", "abcdefg");
     goal(nodes / 8);
     for (unsigned i = 0; i < nodes / 8; i++) {
         formula(1, 7);
@@ -77,7 +78,7 @@ static void wide(unsigned nodes) {
 
 /* p(c(V,c(W,..a))) by p(X) :- q(X) */
 static void named(unsigned nodes) {
-    rule(1, 0);
+    rule("a", "a");
     goal(1);
     formula(1, 1);
     for (unsigned i = 0; i < (nodes - 2) / 2; i++) {
@@ -90,7 +91,7 @@ static void named(unsigned nodes) {
 /* p(c(V,c(W,..a)),c(Y,c(Z,..a))), r by p(X,X) :- q(X,X): two terms are made equal, node by node. */
 static void joined(unsigned nodes) {
     unsigned pairs = (nodes - 4) / 4, next = 0;
-    rule(2, 1);
+    rule("aa", "aa");
     goal(2);
     formula(1, 2);
     for (int side = 0; side < 2; side++) {
@@ -103,11 +104,45 @@ static void joined(unsigned nodes) {
     formula(3, 0);
 }
 
+/* The numbers of A0, A1, .. and of B0, B1, .. by first appearance in `doubled`. */
+static unsigned a(unsigned i) { return i < 2 ? i : 2 * i; }
+static unsigned b(unsigned i) { return i < 2 ? 2 + i : 2 * i + 1; }
+
+/* f(V,V), V */
+static void twice(unsigned number) {
+    compound(1, 2);
+    for (int i = 0; i < 3; i++) variable(number);
+}
+
+/* p(L,R,A0,B0) by p(X,X,Y,Y) :- q: L and R make A0 f(A1,A1), A1 f(A2,A2) and so on, and the same of B0, B1, ..; then A0 and B0 are made equal, two
+   terms that double at each level (document 02, C-15). */
+static void doubled(unsigned levels) {
+    rule("aabb", "");
+    goal(1);
+    formula(1, 4);
+    for (unsigned i = 0; i < levels; i++) {
+        compound(2, 5);
+        variable(a(i));
+        variable(a(i + 1));
+        variable(b(i));
+        variable(b(i + 1));
+    }
+    constant(1);
+    for (unsigned i = 0; i < levels; i++) {
+        compound(2, 5);
+        twice(2 * levels + 2 + 2 * i);
+        twice(2 * levels + 3 + 2 * i);
+    }
+    constant(1);
+    variable(a(0));
+    variable(b(0));
+}
+
 int main(int words, char **word) {
     static const struct {
         const char *name;
         void (*build)(unsigned);
-    } shapes[] = {{"deep", deep}, {"wide", wide}, {"named", named}, {"joined", joined}};
+    } shapes[] = {{"deep", deep}, {"wide", wide}, {"named", named}, {"joined", joined}, {"doubled", doubled}};
     if (words != 4) return 2;
     steps = (unsigned)atoi(word[3]);
     for (size_t i = 0; i < sizeof shapes / sizeof *shapes; i++) {

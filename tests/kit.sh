@@ -15,3 +15,29 @@ archive() {
     mkdir -p target
     [ -f $built ] && [ -z "$(find crates crates.txt -newer $built -print -quit)" ] || rt staticlib engine >target/archive.log 2>&1 || { cat target/archive.log; return 1; }
 }
+
+# needed NAME: how many crates a check of NAME proves, itself and what it is built on.
+needed() {
+    awk -F': *' -v name="$1" '
+        function visit(crate, list, i, n) {
+            if (!(crate in on) || crate in seen) return
+            seen[crate] = 1
+            count++
+            n = split(on[crate], list, " ")
+            for (i = 1; i <= n; i++) visit(list[i])
+        }
+        /^[a-z]/ { on[$1] = $2 }
+        END { visit(name); print count + 0 }' crates.txt
+}
+
+# progress CRATES EDITS: of what rt says, a line for each crate that is proved and for each edit that is refused, with its seconds; and all of it where
+# something else is said.
+progress() {
+    awk -v crates="$1" -v edits="$2" '
+        function seconds() { match($0, /[0-9]+ s\)$/); return RSTART ? " (" substr($0, RSTART) : " (before)" }
+        /^rt: [a-z0-9_]+ proved \(/ { print "proved " ++proved " of " crates ": " $2 seconds(); said = ""; fflush(); next }
+        /^rt: must-fail .*: refused, as it must be/ { print said "refused " ++refused " of " edits ": " substr($3, 1, length($3) - 1) seconds(); said = ""; fflush(); next }
+        /^rt: / { print said $0; said = ""; fflush(); next }
+        { said = said $0 "\n" }
+        END { printf "%s", said }'
+}

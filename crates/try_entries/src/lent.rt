@@ -42,5 +42,11 @@ pub fn entry(entry: u8, item: &[u8], area: &mut [u8]) -> bool {
     }
     let lent = &mut area[0..length];
     fill(lent, item[8], item[9]);
-    apart(entry, number::at(item, 0), &item[14..], number::at(item, 10) as usize, lent)
+    apart(
+        entry,
+        number::at(item, 0),
+        &item[14..],
+        number::at(item, 10) as usize,
+        lent,
+    )
 }
