@@ -31,13 +31,33 @@ needed() {
 }
 
 # progress CRATES EDITS: of what rt says, a line for each crate that is proved and for each edit that is refused, with its seconds; and all of it where
-# something else is said.
+# something else is said. Each line comes at once, which a filter by awk does not promise.
 progress() {
-    awk -v crates="$1" -v edits="$2" '
-        function seconds() { match($0, /[0-9]+ s\)$/); return RSTART ? " (" substr($0, RSTART) : " (before)" }
-        /^rt: [a-z0-9_]+ proved \(/ { print "proved " ++proved " of " crates ": " $2 seconds(); said = ""; fflush(); next }
-        /^rt: must-fail .*: refused, as it must be/ { print said "refused " ++refused " of " edits ": " substr($3, 1, length($3) - 1) seconds(); said = ""; fflush(); next }
-        /^rt: / { print said $0; said = ""; fflush(); next }
-        { said = said $0 "\n" }
-        END { printf "%s", said }'
+    proved=0 refused=0 said=''
+    while IFS= read -r line; do
+        took=${line##*[ (]} took=${line%" $took"} took=${took##*[ (;]}
+        case $line in
+        'rt: '*' proved ('*' s)')
+            proved=$((proved + 1)) said=''
+            line=${line#rt: }
+            echo "proved $proved of $1: ${line%% *} ($took s)" ;;
+        'rt: '*' proved (unchanged since'*)
+            proved=$((proved + 1)) said=''
+            line=${line#rt: }
+            echo "proved $proved of $1: ${line%% *} (before)" ;;
+        'rt: must-fail '*': refused, as it must be'*)
+            refused=$((refused + 1))
+            line=${line#rt: must-fail }
+            printf '%s' "$said"
+            echo "refused $refused of $2: ${line%%: *} ($took s)"
+            said='' ;;
+        'rt: '*)
+            printf '%s%s\n' "$said" "$line"
+            said='' ;;
+        *)
+            said="$said$line
+" ;;
+        esac
+    done
+    printf '%s' "$said"
 }
