@@ -3,7 +3,7 @@
 use crate::build::{case, clause, compound, constant, formula, variable};
 use crate::dice::Dice;
 use crate::item::Case;
-use crate::tree::{Formula, Term, Tree};
+use crate::tree::{Clause, Formula, Term, Tree};
 
 /// A term of about so many nodes. One argument has most of them, and variables below `holes` stand at its leaves.
 fn skeleton(dice: &mut Dice, nodes: u32, holes: u32) -> Tree {
@@ -80,36 +80,40 @@ fn shown(dice: &mut Dice, predicate: u32, variables: u32) -> Formula {
     formula(predicate, (0..arity).map(|_| variable(dice.below(variables))).collect())
 }
 
+fn skeletons(dice: &mut Dice, n: u32, most: u32, holes: u32) -> Vec<Tree> {
+    let mut all = Vec::new();
+    for _ in 0..n {
+        let nodes = dice.from(1, most);
+        all.push(skeleton(dice, nodes, holes));
+    }
+    all
+}
+
+/// A rule for the head, after up to two whose heads differ from it at one leaf.
+fn rules(dice: &mut Dice, head: Vec<Tree>, variables: u32) -> Vec<Clause> {
+    let mut clauses = Vec::new();
+    for _ in 0..dice.below(3) {
+        clauses.push(clause(formula(1, with_change(dice, &head, variables)), vec![shown(dice, 2, variables)]));
+    }
+    clauses.push(clause(formula(1, head), vec![shown(dice, 2, variables), shown(dice, 3, variables)]));
+    clauses
+}
+
 pub fn random(dice: &mut Dice) -> Case {
     let (arity, holes) = (dice.from(1, 3), dice.from(1, 4));
-    let size = if dice.once_in(4) { 60 } else { 12 };
-    let skeletons: Vec<Tree> = (0..arity)
-        .map(|_| {
-            let n = dice.from(1, size);
-            skeleton(dice, n, holes)
-        })
-        .collect();
+    let most = if dice.once_in(4) { 60 } else { 12 };
+    let terms = skeletons(dice, arity, most, holes);
     let most = if dice.once_in(20) { 400 } else { 40 };
-    let fill: Vec<Tree> = (0..holes)
-        .map(|_| {
-            let n = dice.from(1, most);
-            skeleton(dice, n, 0)
-        })
-        .collect();
+    let fill = skeletons(dice, holes, most, 0);
     let mut left = General { first: holes, often: dice.from(8, 60), names: Vec::new() };
-    let head: Vec<Tree> = skeletons.iter().map(|t| left.of(dice, t, &[])).collect();
+    let head = terms.iter().map(|t| left.of(dice, t, &[])).collect();
     let mut right = General { first: 0, often: dice.from(5, 60), names: Vec::new() };
-    let mut arguments: Vec<Tree> = skeletons.iter().map(|t| right.of(dice, t, &fill)).collect();
+    let mut arguments: Vec<Tree> = terms.iter().map(|t| right.of(dice, t, &fill)).collect();
     let variables = right.names.len() as u32;
     if dice.once_in(4) {
         arguments = with_change(dice, &arguments, variables);
     }
-    let own = holes + left.names.len() as u32;
-    let mut clauses = Vec::new();
-    for _ in 0..dice.below(3) {
-        clauses.push(clause(formula(1, with_change(dice, &head, own)), vec![shown(dice, 2, own)]));
-    }
-    clauses.push(clause(formula(1, head), vec![shown(dice, 2, own), shown(dice, 3, own)]));
+    let clauses = rules(dice, head, holes + left.names.len() as u32);
     let mut goal = vec![formula(1, arguments)];
     if variables > 0 {
         goal.push(shown(dice, 4, variables));
