@@ -12,6 +12,9 @@ use Rattle.search.specs.Next.{Book, Goal, Next}
 use Rattle.search.specs.Step.{next-goal}
 use Rattle.search.specs.Run.{goal-at, Roomy}
 use Rattle.search.specs.PathLaws.{path-next}
+use Rattle.search.specs.Single.{Single, not-taken, Steps, solved-20, stuck-22, full-24}
+use Rattle.search.specs.SingleLaws.{step-iff}
+use Rattle.search.specs.TestLaws.{big-iff}
 use Rattle.search.specs.Resolution.{Derived}
 use Rattle.search.specs.ResolutionLaws.{derived-iff}
 use Rattle.records.specs.declared.Check.{Check}
@@ -23,7 +26,8 @@ use Rattle.records.proofs.Meaning.{query-written}
 use Rattle.records.proofs.Premises.{book-clauses, goal-premises}
 use Rattle.areas.specs.GoodGoals.{book-atomic, goal-atomics}
 use Rattle.engine.specs.declared.Stepped.{Stepped}
-use Rattle.engine.specs.Outcome.{stepAnswer, stepArea, runAnswer, runArea}
+use Rattle.engine.specs.Outcome.{stepped, leaves, stepAnswer, stepArea, runAnswer, runArea}
+use Rattle.engine.specs.Images.{step-of-good}
 use Rattle.engine.specs.StepSays.{StepSays, solved, stuck, full, went, step-taken, step-says}
 use Rattle.engine.specs.RunSays as RunSays
 use Rattle.engine.specs.RunSays.{Means, run-means}
@@ -43,6 +47,14 @@ spent-all (RunSays.loop f g e y) k = absurd (omega arith)
 spent-all (RunSays.stuck f g e n) k = absurd (omega arith)
 spent-all (RunSays.spent j h n e) k = e
 spent-all (RunSays.full j h n l b) k = absurd (omega arith)
+
+-- with codes 20, 22 and 24 no step can be taken
+no-step : {P : Book} {budget steps : ℕ} {g : Goal} {c n : ℕ} → Means P budget steps g c n → (c ≡ 21 → ⊥) → (c ≡ 23 → ⊥) → Steps 0 P g (not-taken c)
+no-step (RunSays.solved e) l s = solved-20 e
+no-step (RunSays.loop f g e y) l s = absurd (l refl)
+no-step (RunSays.stuck f g e n) l s = stuck-22 f g e n
+no-step (RunSays.spent k h n e) l s = absurd (s refl)
+no-step (RunSays.full k h n e b) l s = full-24 k h (record { later = k; number = omega arith; next = n }) (big-iff h .1 b)
 
 -- bytes that are a good query, and the goal that they are the image of
 pub record GoodQuery (image : List ℕ) (g : Goal) : Type 0 where
@@ -123,3 +135,19 @@ module _ (book query : List ℕ) (book-bytes : Bytes book) (query-bytes : Bytes 
       pub run-spends : (budget : ℕ) → let r = runAnswer book query budget area in r .code ≡ 23 → StepsTo book query budget (take (r .bytes) (runArea book query budget area))
       run-spends budget c = subst (λ t. StepsTo book query t (take (runAnswer book query budget area .bytes) (runArea book query budget area)))
           (spent-all (run-means book query budget area book-bytes query-bytes (omega (arith, c)) .means) c) (run-is-steps budget)
+
+      -- where it closes with 20, 22 or 24, a single step from what it leaves says the same, and writes nothing
+      pub run-ends : (budget : ℕ) → let r = runAnswer book query budget area in 20 ≤ r .code → (r .code ≡ 21 → ⊥) → (r .code ≡ 23 → ⊥) → (lent : List ℕ) → 16387 ≤ length lent
+          → let image = take (r .bytes) (runArea book query budget area) in
+          (stepAnswer book image lent ≡ record { code = r .code; place = 0; steps = 0; span = 0; bytes = 0; clause = 0 }) × (stepArea book image lent ≡ lent)
+      run-ends budget high other spent lent enough =
+          let says = run-means book query budget area book-bytes query-bytes high in
+          let left = run-leaves budget in
+          let g = left .0 in
+          let same : says .goal ≡ g = Option·some-injective (says .goal) g (inv (says .reached) ∙ left .1) in
+          let stays = step-iff 0 P (book-clauses P (good-P .0)) g (goal-premises g (left .2 .good) .0) (not-taken (runAnswer book query budget area .code)) .1
+          (subst (λ h. Steps 0 P h (not-taken (runAnswer book query budget area .code))) same (no-step (says .means) other spent)) in
+          let o = step-of-good P (good-P .0) g (left .2 .good) lent enough in (
+            ap₂ (λ b i. stepAnswer b i lent) (inv (good-P .1)) (inv (left .2 .is)) ∙ o .0 ∙ ap stepped stays,
+            ap₂ (λ b i. stepArea b i lent) (inv (good-P .1)) (inv (left .2 .is)) ∙ o .1 ∙ ap (λ (s : Single). leaves (s .written) lent) stays,
+          )
