@@ -79,7 +79,7 @@ record-length (Clause n) = refl
 record-length (Goal n) = refl
 record-length End = refl
 
-range-iff : (r : Record) → InRange r ↔ (inRange r ≡ true)
+pub range-iff : (r : Record) → InRange r ↔ (inRange r ≡ true)
 unfolding inRange
 range-iff (Variable v) = (λ i. refl, λ e. tt)
 range-iff (Constant c) = (λ i. refl, λ e. tt)

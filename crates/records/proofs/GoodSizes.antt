@@ -3,6 +3,7 @@ use Prim.Native.Nat.{ℕ, _+_, _-_, _≤_, _<_, zero-le}
 use native.Mathlib.Omega.{arith}
 use borrow.Author.Tests.{ltb-true, lt-ltb}
 use mathlib.Core.Path.{_≡_, refl, sym as inv, ap, subst, _∙_}
+use mathlib.Core.Logic.{_↔_}
 use mathlib.Core.List.{List, [], _∷_, _++_, append-nil}
 use lib.ListN.{length}
 use lib.Dec.{ltb}
@@ -16,11 +17,25 @@ use Rattle.records.specs.declared.state.Form.the-variants.{Book, Query}
 use Rattle.records.specs.declared.record.Record.{Record}
 use Rattle.records.specs.declared.record.Record.the-variants.{Clause, Goal}
 use Rattle.records.specs.Reading.{nodeLimit, variableLimit, inSize, after, start}
-use Rattle.records.specs.Format.{nodeRecord, nodeRecords, Below, bookRecords, GoodClauses, goalRecords, GoodGoal}
+use Rattle.records.specs.Format.{nodeRecord, nodeRecords, Below, bookRecords, GoodClause, GoodClauses, goalRecords, GoodGoal}
 use Rattle.records.specs.Faulty.{Formed, FormedClauses}
 use Rattle.records.proofs.Tests.{and-both}
 use Rattle.records.proofs.Beginnings.{reach, reach-append}
 use Rattle.records.proofs.Sizes.{Sized}
+
+-- Good is formed, and within the sizes.
+
+pub clause-iff : (c : Next.Clause) → GoodClause c ↔ (Formed 17 (c .head ∷ c .body) × (nodes (c .head ∷ c .body) ≤ 256) × Below 64 (flat (c .head ∷ c .body)))
+clause-iff c = (
+  λ g. let few = g .few in (record { few = omega arith; formulas = g .formulas; numbered = g .fitting .numbered }, g .fitting .size, g .fitting .below),
+  λ x. let few = x .0 .few in record { few = omega arith; formulas = x .0 .formulas; fitting = record { size = x .1; below = x .2; numbered = x .0 .numbered } },
+)
+
+pub goal-iff : (g : Next.Goal) → GoodGoal g ↔ (Formed 512 g × (nodes g ≤ 4096) × Below 65536 (flat g))
+goal-iff g = (
+  λ x. (record { few = x .few; formulas = x .formulas; numbered = x .fitting .numbered }, x .fitting .size, x .fitting .below),
+  λ x. record { few = x .0 .few; formulas = x .0 .formulas; fitting = record { size = x .1; below = x .2; numbered = x .0 .numbered } },
+)
 
 -- Nodes
 
@@ -96,18 +111,17 @@ clauses-held (c ∷ b) state f s =
     let k = nodes-sized Book (bookRecords b) opened (flat g) (s .1) in
     let h = clauses-held b (reach opened (nodeRecords (flat g))) (f .1) (k .later) in
     let q = counts-nodes opened (flat g) in
-    let few = f .0 .few in
     let l = ltb-true (state .clauses) 512 (s .0) in
     let r : reach state (bookRecords (c ∷ b)) ≡ reach (reach opened (nodeRecords (flat g))) (bookRecords b) = reach-append opened (nodeRecords (flat g)) (bookRecords b) in
     record {
-      good = (record { few = omega arith; formulas = f .0 .formulas; fitting = record { size = omega (arith, k .size, flat-size g); below = k .below; numbered = f .0 .numbered } }, h .good);
+      good = (clause-iff c .1 (f .0, omega (arith, k .size, flat-size g), k .below), h .good);
       few = omega (arith, h .few, q .clauses);
       count = ap (λ (x : State). x .clauses) r ∙ omega (arith, h .count, q .clauses);
     }
 
 pub clauses-formed : (b : Next.Book) → GoodClauses b → FormedClauses b
 clauses-formed [] g = tt
-clauses-formed (c ∷ b) g = let few = g .0 .few in (record { few = omega arith; formulas = g .0 .formulas; numbered = g .0 .fitting .numbered }, clauses-formed b (g .1))
+clauses-formed (c ∷ b) g = (clause-iff c .0 (g .0) .0, clauses-formed b (g .1))
 
 pub clauses-sized : (b : Next.Book) (state : State) → GoodClauses b → length b ≤ 512 - state .clauses → Sized Book state (bookRecords b)
 unfolding inSize after
@@ -133,7 +147,7 @@ unfolding after
 goal-held g f s =
     let opened = after start (Goal (length g)) in
     let k = nodes-sized Query [] opened (flat g) (subst (Sized Query opened) (inv (append-nil (nodeRecords (flat g)))) (s .1)) in
-    record { few = f .few; formulas = f .formulas; fitting = record { size = omega (arith, k .size, flat-size g); below = k .below; numbered = f .numbered } }
+    goal-iff g .1 (f, omega (arith, k .size, flat-size g), k .below)
 
 pub goal-sized : (g : Next.Goal) → GoodGoal g → Sized Query start (goalRecords g)
 unfolding inSize after
