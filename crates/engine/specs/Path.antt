@@ -12,7 +12,7 @@ use Rattle.search.specs.Next.{Book, Goal, Next}
 use Rattle.search.specs.Step.{next-goal}
 use Rattle.search.specs.Run.{goal-at, Roomy}
 use Rattle.search.specs.PathLaws.{path-next}
-use Rattle.search.specs.Single.{Single, not-taken, Steps, solved-20, stuck-22, full-24}
+use Rattle.search.specs.Single.{Single, not-taken, Steps, solved-20, stuck-22, full-24, unknown-26}
 use Rattle.search.specs.SingleLaws.{step-iff}
 use Rattle.search.specs.TestLaws.{big-iff}
 use Rattle.search.specs.Resolution.{Derived}
@@ -28,7 +28,7 @@ use Rattle.areas.specs.GoodGoals.{book-atomic, goal-atomics}
 use Rattle.engine.specs.declared.Stepped.{Stepped}
 use Rattle.engine.specs.Outcome.{stepped, leaves, stepAnswer, stepArea, runAnswer, runArea}
 use Rattle.engine.specs.Images.{step-of-good}
-use Rattle.engine.specs.StepSays.{StepSays, solved, stuck, full, went, step-taken, step-says}
+use Rattle.engine.specs.StepSays.{StepSays, solved, stuck, unknown, full, went, step-taken, step-says}
 use Rattle.engine.specs.RunSays as RunSays
 use Rattle.engine.specs.RunSays.{Means, run-means}
 use Rattle.engine.specs.StepsTo.{StepsTo, none-yet, one-more, reached, gets-there, run-gets-there}
@@ -36,7 +36,8 @@ use Rattle.engine.specs.StepsTo.{StepsTo, none-yet, one-more, reached, g
 -- with code 25 the next goal's image stands at the front
 went-by : {P : Book} {q : Goal} {area after : List ℕ} {r : Stepped} → StepSays P q area r after → r .code ≡ 25 → (h : Goal) × Next P q (r .clause) h × (take (r .bytes) after ≡ encodeGoal h)
 went-by (solved e) c = absurd (omega arith)
-went-by (stuck f g e n) c = absurd (omega arith)
+went-by (stuck f g e n k) c = absurd (omega arith)
+went-by (unknown f g e n k) c = absurd (omega arith)
 went-by (full k h n b) c = absurd (omega arith)
 went-by {area = area} (went k h n l m) c = (h, n, take-append-seam (encodeGoal h) (drop (length (encodeGoal h)) area))
 
@@ -44,7 +45,8 @@ went-by {area = area} (went k h n l m) c = (h, n, take-append-seam (encodeGoal h
 spent-all : {P : Book} {budget steps : ℕ} {g : Goal} {c n : ℕ} → Means P budget steps g c n → c ≡ 23 → steps ≡ budget
 spent-all (RunSays.solved e) k = absurd (omega arith)
 spent-all (RunSays.loop f g e y) k = absurd (omega arith)
-spent-all (RunSays.stuck f g e n) k = absurd (omega arith)
+spent-all (RunSays.stuck f g e n i) k = absurd (omega arith)
+spent-all (RunSays.unknown f g e n i) k = absurd (omega arith)
 spent-all (RunSays.spent j h n e) k = e
 spent-all (RunSays.full j h n l b) k = absurd (omega arith)
 
@@ -52,7 +54,8 @@ spent-all (RunSays.full j h n l b) k = absurd (omega arith)
 no-step : {P : Book} {budget steps : ℕ} {g : Goal} {c n : ℕ} → Means P budget steps g c n → (c ≡ 21 → ⊥) → (c ≡ 23 → ⊥) → Steps 0 P g (not-taken c)
 no-step (RunSays.solved e) l s = solved-20 e
 no-step (RunSays.loop f g e y) l s = absurd (l refl)
-no-step (RunSays.stuck f g e n) l s = stuck-22 f g e n
+no-step (RunSays.stuck f g e n k) l s = stuck-22 f g e n k
+no-step (RunSays.unknown f g e n k) l s = unknown-26 f g e n k
 no-step (RunSays.spent k h n e) l s = absurd (s refl)
 no-step (RunSays.full k h n e b) l s = full-24 k h (record { later = k; number = omega arith; next = n }) (big-iff h .1 b)
 
@@ -136,7 +139,7 @@ module _ (book query : List ℕ) (book-bytes : Bytes book) (query-bytes : Bytes 
       run-spends budget c = subst (λ t. StepsTo book query t (take (runAnswer book query budget area .bytes) (runArea book query budget area)))
           (spent-all (run-means book query budget area book-bytes query-bytes (omega (arith, c)) .means) c) (run-is-steps budget)
 
-      -- where it closes with 20, 22 or 24, a single step from what it leaves says the same, and writes nothing
+      -- where it closes with 20, 22, 24 or 26, a single step from what it leaves says the same, and writes nothing
       pub run-ends : (budget : ℕ) → let r = runAnswer book query budget area in 20 ≤ r .code → (r .code ≡ 21 → ⊥) → (r .code ≡ 23 → ⊥) → (lent : List ℕ) → 16387 ≤ length lent
           → let image = take (r .bytes) (runArea book query budget area) in
           (stepAnswer book image lent ≡ record { code = r .code; place = 0; steps = 0; span = 0; bytes = 0; clause = 0 }) × (stepArea book image lent ≡ lent)

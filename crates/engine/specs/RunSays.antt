@@ -17,7 +17,8 @@ use Rattle.search.specs.RunLaws.{run-runs, runs-goal}
 use Rattle.search.specs.Cycle.{Cyclic-formula}
 use Rattle.search.specs.Told.{Too-big, Told}
 use Rattle.search.specs.ToldLaws.{run-told}
-use Rattle.search.specs.Codes.{Says, solved-20, loop-21, stuck-22, spent-23, full-24}
+use Rattle.search.specs.Known.{Known}
+use Rattle.search.specs.Codes.{Says, solved-20, loop-21, stuck-22, spent-23, full-24, unknown-26}
 use Rattle.search.specs.Theorem.{code-says}
 use Rattle.records.specs.Format.{encodeGoal, Bytes}
 use Rattle.records.specs.Decode.{bookOf, goalOf}
@@ -34,8 +35,9 @@ pub data Means (P : Book) (budget steps : ℕ) (g : Goal) : ℕ → ℕ → Type
   solved : g ≡ [] → Means P budget steps g 20 0
   -- the leftmost formula alone comes back, up to renaming, after the span
   loop : {span : ℕ} (f : Expr) (rest : Goal) → g ≡ f ∷ rest → Cyclic-formula P f span → Means P budget steps g 21 span
-  -- "stuck: goal not empty, no head unifies with its leftmost formula"
-  stuck : (f : Expr) (rest : Goal) → g ≡ f ∷ rest → None-meets f P → Means P budget steps g 22 0
+  -- "stuck: goal not empty, no head unifies with its leftmost formula"; with 22 clauses exist for its predicate and arity, with 26 there is none (document 02, C-12)
+  stuck : (f : Expr) (rest : Goal) → g ≡ f ∷ rest → None-meets f P → Known P f → Means P budget steps g 22 0
+  unknown : (f : Expr) (rest : Goal) → g ≡ f ∷ rest → None-meets f P → ¬ Known P f → Means P budget steps g 26 0
   -- "steps used up": there is a next goal, of whatever size
   spent : (k : ℕ) (h : Goal) → Next P g k h → steps ≡ budget → Means P budget steps g 23 0
   -- "no room: the next goal exists and has over 512 formulas or 4,096 nodes", and the budget would allow it
@@ -56,7 +58,8 @@ module _ (P : Book) (budget : ℕ) (q : Goal) (r : Closed) (s : State Expr) wher
   code-means : {c : ℕ} → Says P budget q r s c → Means P budget (r .steps) (r .goal) c (r .span)
   code-means (solved-20 e z) = subst (Means P budget (r .steps) (r .goal) 20) (inv z) (solved e)
   code-means (loop-21 l) = loop (l .formula) (l .rest) (l .leftmost) (l .returns)
-  code-means (stuck-22 f g e n z) = subst (Means P budget (r .steps) (r .goal) 22) (inv z) (stuck f g e n)
+  code-means (stuck-22 f g e n k z) = subst (Means P budget (r .steps) (r .goal) 22) (inv z) (stuck f g e n k)
+  code-means (unknown-26 f g e n k z) = subst (Means P budget (r .steps) (r .goal) 26) (inv z) (unknown f g e n k)
   code-means (spent-23 k h n l z) = subst (Means P budget (r .steps) (r .goal) 23) (inv z) (spent k h n l)
   code-means (full-24 k h n l b z) = subst (Means P budget (r .steps) (r .goal) 24) (inv z) (full k h n l b)
 

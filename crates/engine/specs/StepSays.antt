@@ -1,6 +1,6 @@
 -- What a single step says (document 01, "Codes"), of bytes and in plain figures: "A single step gives 20, 22, 24 or 25, in that order of test, with steps 1 and the clause
 -- number (from 0) for code 25; otherwise steps and clause number are 0. Its span is always 0. Only code 25 writes: the next goal's image at the front of the area.
--- Codes 20, 22 and 24 of a single step write nothing and report 0 bytes." The next goal is document 01's relation: any names that are apart, any most general unifier.
+-- Codes 20, 22 and 24 of a single step write nothing and report 0 bytes." 26 stands in the place of 22 where the book has no clause for the predicate and arity (document 02, C-12). The next goal is document 01's relation: any names that are apart, any most general unifier.
 use Prim.Native.Nat.{ℕ, _≤_}
 use native.Mathlib.Omega.{arith}
 use native.Mathlib.Decide.{ℕ-discrete}
@@ -11,9 +11,10 @@ use lib.ListN.{length, drop}
 use Rattle.terms.specs.Node.{Expr}
 use Rattle.search.specs.Next.{Book, Goal, None-meets, Next, Next-from}
 use Rattle.search.specs.Room.{nodes, fits-iff}
+use Rattle.search.specs.Known.{Known}
 use Rattle.search.specs.Told.{Too-big}
 use Rattle.search.specs.TestLaws.{big-iff}
-use Rattle.search.specs.Single.{Single, not-taken, taken, step, Steps, solved-20, stuck-22, full-24, taken-25}
+use Rattle.search.specs.Single.{Single, not-taken, taken, step, Steps, solved-20, stuck-22, unknown-26, full-24, taken-25}
 use Rattle.search.specs.SingleLaws.{step-iff}
 use Rattle.records.specs.Format.{encodeGoal, Bytes}
 use Rattle.records.specs.Decode.{bookOf, goalOf}
@@ -27,7 +28,8 @@ use Rattle.engine.specs.Images.{Images, images}
 -- the step from q by P into an area, with what it answers and leaves
 pub data StepSays (P : Book) (q : Goal) (area : List ℕ) : Stepped → List ℕ → Type 0 where
   solved : q ≡ [] → StepSays P q area (record { code = 20; place = 0; steps = 0; span = 0; bytes = 0; clause = 0 }) area
-  stuck : (f : Expr) (g : Goal) → q ≡ f ∷ g → None-meets f P → StepSays P q area (record { code = 22; place = 0; steps = 0; span = 0; bytes = 0; clause = 0 }) area
+  stuck : (f : Expr) (g : Goal) → q ≡ f ∷ g → None-meets f P → Known P f → StepSays P q area (record { code = 22; place = 0; steps = 0; span = 0; bytes = 0; clause = 0 }) area
+  unknown : (f : Expr) (g : Goal) → q ≡ f ∷ g → None-meets f P → ¬ Known P f → StepSays P q area (record { code = 26; place = 0; steps = 0; span = 0; bytes = 0; clause = 0 }) area
   full : (k : ℕ) (h : Goal) → Next P q k h → Too-big h → StepSays P q area (record { code = 24; place = 0; steps = 0; span = 0; bytes = 0; clause = 0 }) area
   went : (k : ℕ) (h : Goal) → Next P q k h → length h ≤ 512 → nodes h ≤ 4096
       → StepSays P q area (record { code = 25; place = 0; steps = 1; span = 0; bytes = length (encodeGoal h); clause = k }) (encodeGoal h ++ drop (length (encodeGoal h)) area)
@@ -42,7 +44,8 @@ module _ (P : Book) (q : Goal) (area : List ℕ) where
 
   single-says : (s : Single) → Steps 0 P q s → StepSays P q area (stepped s) (leaves (s .written) area)
   single-says s (solved-20 e) = solved e
-  single-says s (stuck-22 f g e n) = stuck f g e n
+  single-says s (stuck-22 f g e n k) = stuck f g e n k
+  single-says s (unknown-26 f g e n k) = unknown f g e n k
   single-says s (full-24 k h n f) = full k h (counted n) (big-iff h .0 f)
   single-says s (taken-25 k h n f) = let room = fits-iff h .0 f in went k h (counted n) (room .0) (room .1)
 
@@ -55,7 +58,8 @@ module _ (P : Book) (q : Goal) (area : List ℕ) where
 
   says-single : {r : Stepped} {after : List ℕ} → StepSays P q area r after → ComesOf r after
   says-single (solved e) = record { single = not-taken 20; steps = solved-20 e; answer = refl; left = refl }
-  says-single (stuck f g e n) = record { single = not-taken 22; steps = stuck-22 f g e n; answer = refl; left = refl }
+  says-single (stuck f g e n k) = record { single = not-taken 22; steps = stuck-22 f g e n k; answer = refl; left = refl }
+  says-single (unknown f g e n k) = record { single = not-taken 26; steps = unknown-26 f g e n k; answer = refl; left = refl }
   says-single (full k h n b) = record { single = not-taken 24; steps = full-24 k h (from-first n) (big-iff h .1 b); answer = refl; left = refl }
   says-single (went k h n l m) = record { single = taken k h; steps = taken-25 k h (from-first n) (fits-iff h .1 (l, m)); answer = refl; left = refl }
 

@@ -7,6 +7,7 @@ use mathlib.Core.List.{List, [], _∷_, map}
 use lib.ListN.{length}
 use Rattle.search.specs.Next.{Goal}
 use Rattle.search.specs.Room.{fits}
+use Rattle.search.specs.Known.{alike?, known?, stuck-code}
 use Rattle.search.specs.Single.{step}
 use Rattle.records.specs.Reading.{allowed, bodyLength, numberAt, recordAt, inRange, inSize, inOrder, nextUnused, after, judgeRecord, judge, whole, finish, walk, verdict, bookVerdict, queryVerdict}
 use Rattle.records.specs.Cases.{Case, cases}
@@ -73,7 +74,7 @@ holds-refused c f query u area long =
 
 -- The table holds, all of its lines.
 pub step-table-holds : All RowHolds table
-unfolding allowed bodyLength numberAt recordAt inRange inSize inOrder nextUnused after judgeRecord judge whole finish walk verdict bookOf goalOf fits
+unfolding allowed bodyLength numberAt recordAt inRange inSize inOrder nextUnused after judgeRecord judge whole finish walk verdict bookOf goalOf fits stuck-code known? alike?
 step-table-holds = (
   holds-taken _ _ _ _ refl refl refl refl,
   (

@@ -12,6 +12,7 @@ use Rattle.loops.specs.Path.{path-zero, path-on, path-back}
 use Rattle.search.specs.Next.{Book, Goal}
 use Rattle.search.specs.Step.{Step, solved, stuck, to, next, next-goal, goal-of, counted}
 use Rattle.search.specs.Room.{fits}
+use Rattle.search.specs.Known.{stuck-code, stuck-not-25}
 use Rattle.search.specs.Single.{if-fits, single, step}
 use Rattle.search.specs.Run.{run, goal-at, Roomy}
 use Rattle.search.specs.RunLaws.{run-runs, runs-goal}
@@ -42,16 +43,16 @@ record Went (P : Book) (g : Goal) : Type 0 where
   written : step P g .written ≡ some next-one
 
 went-fit : (P : Book) (g h : Goal) (k : ℕ) → next P g ≡ to k h → (b : Bool) → fits h ≡ b → if-fits b (0 + k) h .code ≡ 25 → Went P g
-went-fit P g h k e true f c = record { next-one = h; follows = ap goal-of e; room = f; written = ap (λ s. single (counted 0 s) .written) e ∙ ap (λ b. if-fits b (0 + k) h .written) f }
+went-fit P g h k e true f c = record { next-one = h; follows = ap goal-of e; room = f; written = ap (λ s. single (stuck-code P g) (counted 0 s) .written) e ∙ ap (λ b. if-fits b (0 + k) h .written) f }
 went-fit P g h k e false f c = absurd (omega arith)
 
 went : (P : Book) (g : Goal) → step P g .code ≡ 25 → Went P g
 went P g c = go (next P g) refl
   where
     go : (s : Step) → next P g ≡ s → Went P g
-    go solved e = absurd (omega (arith, c, ap (λ s. single (counted 0 s) .code) e))
-    go stuck e = absurd (omega (arith, c, ap (λ s. single (counted 0 s) .code) e))
-    go (to k h) e = went-fit P g h k e (fits h) refl (inv (ap (λ s. single (counted 0 s) .code) e) ∙ c)
+    go solved e = absurd (omega (arith, c, ap (λ s. single (stuck-code P g) (counted 0 s) .code) e))
+    go stuck e = absurd (stuck-not-25 P g (inv (ap (λ s. single (stuck-code P g) (counted 0 s) .code) e) ∙ c))
+    go (to k h) e = went-fit P g h k e (fits h) refl (inv (ap (λ s. single (stuck-code P g) (counted 0 s) .code) e) ∙ c)
 
 -- The step from a good goal, by a good book, fed with images.
 module _ (P : Book) (good-book : GoodBook P) (g : Goal) (good-goal : GoodGoal g) (area : List ℕ) (c : stepAnswer (encodeBook P) (encodeGoal g) area .code ≡ 25) where
@@ -95,7 +96,7 @@ module _ (P : Book) (good-book : GoodBook P) (q : Goal) (good-query : GoodGoal q
     step-there : (g h : Goal) → GoodGoal g → next-goal P g ≡ some h → fits h ≡ true → stepAnswer (encodeBook P) (encodeGoal g) area .code ≡ 25
     step-there g h good e f = ap (λ (r : Stepped). r .code) (step-of-good P good-book g good area long .0) ∙ go (next P g) e
       where
-        go : (s : Step) → goal-of s ≡ some h → single (counted 0 s) .code ≡ 25
+        go : (s : Step) → goal-of s ≡ some h → single (stuck-code P g) (counted 0 s) .code ≡ 25
         go solved e = cc
         go stuck e = cc
         go (to k i) e = ap (λ b. if-fits b (0 + k) i .code) (ap fits (Option·some-injective i h e) ∙ f)

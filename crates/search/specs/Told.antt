@@ -10,6 +10,7 @@ use Rattle.terms.specs.Rename.{Variant}
 use Rattle.loops.specs.Detect.{State}
 use Rattle.search.specs.Next.{Book, Goal, None-meets, Next}
 use Rattle.search.specs.Room.{nodes}
+use Rattle.search.specs.Known.{Known}
 use Rattle.search.specs.Run.{Closed}
 
 -- "A present, length of G at least l, and leftmost formula equal to A up to renaming"
@@ -40,12 +41,14 @@ abbrev pub Too-big : Goal → Type 0
 Too-big h = (512 < length h) ⊎ (4096 < nodes h)
 
 module _ (P : Book) (budget : ℕ) where
-  -- "At each state, in this order: G empty, 20; ..": the code and the span with which s closes, each test where those before it did not close. "Span is t less the
+  -- "At each state, in this order: G empty, 20; ..": the code and the span with which s closes, each test where those before it did not close; 26 stands in the place of 22 where the book does
+  -- not know the predicate (document 02, C-12). "Span is t less the
   -- step of the last save for code 21, otherwise 0."
   pub data Closing (s : State Expr) : ℕ → ℕ → Type 0 where
     at-20 : s .goal ≡ [] → Closing s 20 0
     at-21 : Comes-back s → Closing s 21 (s .step - s .from)
-    at-22 : (f : Expr) (g : Goal) → s .goal ≡ f ∷ g → ¬ Comes-back s → None-meets f P → Closing s 22 0
+    at-22 : (f : Expr) (g : Goal) → s .goal ≡ f ∷ g → ¬ Comes-back s → None-meets f P → Known P f → Closing s 22 0
+    at-26 : (f : Expr) (g : Goal) → s .goal ≡ f ∷ g → ¬ Comes-back s → None-meets f P → ¬ Known P f → Closing s 26 0
     at-23 : (k : ℕ) (h : Goal) → ¬ Comes-back s → Next P (s .goal) k h → s .step ≡ budget → Closing s 23 0
     at-24 : (k : ℕ) (h : Goal) → ¬ Comes-back s → Next P (s .goal) k h → ¬ (s .step ≡ budget) → Too-big h → Closing s 24 0
 

@@ -15,11 +15,12 @@ use Rattle.search.specs.Next.{Book, Goal, Clauses, None-meets, Next}
 use Rattle.search.specs.Step.{next-goal}
 use Rattle.search.specs.NextLaws.{first-none, next-one, no-next}
 use Rattle.search.specs.Room.{fits}
-use Rattle.search.specs.Run.{Closed, verdict, run, goal-at, state-at, Roomy, Closes, code-20, code-21, code-22, code-23, code-24, Runs}
+use Rattle.search.specs.Known.{Knows}
+use Rattle.search.specs.Run.{Closed, verdict, run, goal-at, state-at, Roomy, Closes, code-20, code-21, code-22, code-23, code-24, code-26, Runs}
 use Rattle.search.specs.RunLaws.{state-sound, state-next, roomier, run-iff, runs-step}
 use Rattle.search.specs.PathLaws.{path-formulas, path-next}
 use Rattle.search.specs.TestLaws.{detected-iff, after-is, move-after, move-goal, big-iff}
-use Rattle.search.specs.Told.{Comes-back, After, Too-big, Closing, at-20, at-21, at-22, at-23, at-24, Reached, first, then, Told}
+use Rattle.search.specs.Told.{Comes-back, After, Too-big, Closing, at-20, at-21, at-22, at-23, at-24, at-26, Reached, first, then, Told}
 
 -- For a book and a query of formulas, the query numbered, as checked ones are.
 module _ (P : Book) (good : Clauses P) (q : Goal) (formulas : Formulas q) (numbered : Numbered q) where
@@ -105,29 +106,34 @@ module _ (P : Book) (good : Clauses P) (q : Goal) (formulas : Formulas q) (numbe
     closes-closing : (t : ℕ) (s : State Expr) → state-at P q t ≡ some s → (c n : ℕ) → Closes P budget s c n → Closing P budget s c n
     closes-closing t s e c n (code-20 f) = at-20 (turn t s e solved f)
     closes-closing t s e c n (code-21 f) = let z = turn t s e (loop n) f in subst (Closing P budget s 21) (inv (z .1)) (at-21 (z .0))
-    closes-closing t s e c n (code-22 f) = let (l, r, d, x, m) = turn t s e stuck f in at-22 l r d x m
+    closes-closing t s e c n (code-22 f k) = let (l, r, d, x, m) = turn t s e stuck f in at-22 l r d x m (subst (Knows P) d k)
+    closes-closing t s e c n (code-26 f k) = let (l, r, d, x, m) = turn t s e stuck f in at-26 l r d x m (subst (λ g. ¬ Knows P g) d k)
     closes-closing t s e c n (code-23 {s′ = s′} f b) = let (x, k, d, a) = turn t s e (go-on s′) f in at-23 k (s′ .goal) x d b
     closes-closing t s e c n (code-24 {s′ = s′} f b h) = let (x, k, d, a) = turn t s e (go-on s′) f in at-24 k (s′ .goal) x d (λ z. omega arith) (big-iff (s′ .goal) .0 h)
 
     closing-closes : (s : State Expr) → s .step ≤ budget → (v : Verdict Expr) → verdict P s ≡ v → Turn s v → (c n : ℕ) → Closing P budget s c n → Closes P budget s c n
     closing-closes s l solved f z c n (at-20 e) = code-20 f
     closing-closes s l solved f z c n (at-21 b) = absurd (empty-back z b)
-    closing-closes s l solved f z c n (at-22 a g e b m) = absurd (nil≢cons (inv z ∙ e))
+    closing-closes s l solved f z c n (at-22 a g e b m y) = absurd (nil≢cons (inv z ∙ e))
+    closing-closes s l solved f z c n (at-26 a g e b m y) = absurd (nil≢cons (inv z ∙ e))
     closing-closes s l solved f z c n (at-23 k h b x e) = absurd (empty-next k h z x)
     closing-closes s l solved f z c n (at-24 k h b x e y) = absurd (empty-next k h z x)
     closing-closes s l (loop i) f z c n (at-20 e) = absurd (empty-back e (z .0))
     closing-closes s l (loop i) f z c n (at-21 b) = subst (Closes P budget s 21) (z .1) (code-21 f)
-    closing-closes s l (loop i) f z c n (at-22 a g e b m) = absurd (b (z .0))
+    closing-closes s l (loop i) f z c n (at-22 a g e b m y) = absurd (b (z .0))
+    closing-closes s l (loop i) f z c n (at-26 a g e b m y) = absurd (b (z .0))
     closing-closes s l (loop i) f z c n (at-23 k h b x e) = absurd (b (z .0))
     closing-closes s l (loop i) f z c n (at-24 k h b x e y) = absurd (b (z .0))
     closing-closes s l stuck f (a, g, d, x, m) c n (at-20 e) = absurd (nil≢cons (inv e ∙ d))
     closing-closes s l stuck f (a, g, d, x, m) c n (at-21 b) = absurd (x b)
-    closing-closes s l stuck f (a, g, d, x, m) c n (at-22 a′ g′ e b m′) = code-22 f
+    closing-closes s l stuck f (a, g, d, x, m) c n (at-22 a′ g′ e b m′ y) = code-22 f (subst (Knows P) (inv e) y)
+    closing-closes s l stuck f (a, g, d, x, m) c n (at-26 a′ g′ e b m′ y) = code-26 f (subst (λ g. ¬ Knows P g) (inv e) y)
     closing-closes s l stuck f (a, g, d, x, m) c n (at-23 k h b y e) = absurd (stuck-next k h d m y)
     closing-closes s l stuck f (a, g, d, x, m) c n (at-24 k h b y e z) = absurd (stuck-next k h d m y)
     closing-closes s l (go-on s′) f (x, i, d, a) c n (at-20 e) = absurd (empty-next i (s′ .goal) e d)
     closing-closes s l (go-on s′) f (x, i, d, a) c n (at-21 b) = absurd (x b)
-    closing-closes s l (go-on s′) f (x, i, d, a) c n (at-22 a′ g e b m) = absurd (stuck-next i (s′ .goal) e m d)
+    closing-closes s l (go-on s′) f (x, i, d, a) c n (at-22 a′ g e b m y) = absurd (stuck-next i (s′ .goal) e m d)
+    closing-closes s l (go-on s′) f (x, i, d, a) c n (at-26 a′ g e b m y) = absurd (stuck-next i (s′ .goal) e m d)
     closing-closes s l (go-on s′) f (x, i, d, a) c n (at-23 k h b y e) = code-23 f e
     closing-closes s l (go-on s′) f (x, i, d, a) c n (at-24 k h b y e z) =
         let same = next-one P (s .goal) k i h (s′ .goal) y d .1 in
