@@ -24,11 +24,12 @@ extern "C" {
 #define PITXARGOLE_QUERY_SIZE 15
 #define PITXARGOLE_QUERY_VARIABLE 16
 /* The run closed, and its last goal's image stands at the front of the area: */
-#define PITXARGOLE_SOLVED 20 /* goal empty */
-#define PITXARGOLE_LOOP 21   /* the search never ends */
-#define PITXARGOLE_STUCK 22  /* no head unifies with the leftmost formula */
-#define PITXARGOLE_STEPS 23  /* steps used up */
-#define PITXARGOLE_ROOM 24   /* the next goal has over 512 formulas or 4,096 nodes */
+#define PITXARGOLE_SOLVED 20  /* goal empty */
+#define PITXARGOLE_LOOP 21    /* the search never ends */
+#define PITXARGOLE_STUCK 22   /* the book has clauses for the leftmost formula's predicate and arity, and none of their heads unifies with it */
+#define PITXARGOLE_STEPS 23   /* steps used up */
+#define PITXARGOLE_ROOM 24    /* the next goal has over 512 formulas or 4,096 nodes */
+#define PITXARGOLE_UNKNOWN 26 /* the book has no clause for the leftmost formula's predicate and arity: a slip of the pen, most likely */
 
 /* Runs the query by the book for at most `budget` steps. Every book and query, however damaged, gets one answer. The pointers are not
    null, also where a length is 0, and `area` overlaps neither book nor query. Lengths have 64 bits on every processor. */

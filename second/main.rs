@@ -4,7 +4,7 @@
 //   second stored              the stream that is stored beside that program
 //   second answers             reads a stream, and writes the lines that `try_entries` must write
 //   second item N              reads a stream, and shows its N-th item, from 1
-//   second table               holds the documents' cases to the results that the documents give
+//   second table               holds the documents' cases to the results that the documents give, and others to results worked out by hand
 //   second trace               reads what the program `trace` reads, and prints what it prints
 //   second pack N              reads a book and a query in document 01's notation, and writes them with budget N as `trace` reads them
 mod answers;
@@ -28,6 +28,8 @@ mod stream;
 mod table;
 mod tree;
 mod unify;
+mod unknown;
+mod worked;
 
 use item::Item;
 use std::io::{BufWriter, Read, Write};
@@ -68,7 +70,7 @@ fn show(stream: &[u8], n: &str) -> Done {
 }
 
 fn table() -> Done {
-    let wrong = table::all_wrong();
+    let wrong = [table::all_wrong(), worked::all_wrong()].concat();
     if wrong.is_empty() { Ok(()) } else { Err(wrong.join("\n")) }
 }
 

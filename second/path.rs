@@ -66,6 +66,11 @@ fn fitting(clauses: &[Clause], goal: &Goal) -> Option<(usize, u32, Solution)> {
     })
 }
 
+/// What no fitting clause means: 22 where the book has clauses of the leftmost formula's predicate and arity, and 26 where it has none.
+fn none_fits(clauses: &[Clause], goal: &Goal) -> u8 {
+    if clauses.iter().any(|clause| clause.head.same_predicate(&goal[0])) { 22 } else { 26 }
+}
+
 /// The formula replaced by the body, the unifier applied throughout, the variables numbered anew.
 fn next(clause: &Clause, apart: u32, solution: &Solution, goal: &Goal) -> Result<Goal, NoRoom> {
     let mut copier = Copier { solution, names: HashMap::new(), nodes: 0 };
@@ -132,7 +137,9 @@ fn follow(clauses: &[Clause], query: Goal, budget: u32) -> (u8, u32, State) {
         if state.looped() {
             return (21, state.t - state.saved_at, state);
         }
-        let Some((number, apart, solution)) = fitting(clauses, &state.goal) else { return (22, 0, state) };
+        let Some((number, apart, solution)) = fitting(clauses, &state.goal) else {
+            return (none_fits(clauses, &state.goal), 0, state);
+        };
         if state.t == budget {
             return (23, 0, state);
         }
@@ -181,7 +188,7 @@ pub fn step(book: &[u8], query: &[u8], area: &mut [u8]) -> Answer {
         return Answer { code: 20, ..Answer::default() };
     }
     match next_goal(&clauses, &goal) {
-        Next::Stuck => Answer { code: 22, ..Answer::default() },
+        Next::Stuck => Answer { code: none_fits(&clauses, &goal), ..Answer::default() },
         Next::NoRoom => Answer { code: 24, ..Answer::default() },
         Next::Goal(number, goal) => {
             Answer { code: 25, place: 0, steps: 1, span: 0, bytes: write(&goal, area), clause: number as u32 }

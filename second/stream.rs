@@ -8,6 +8,8 @@ use crate::list::{self, Line};
 use crate::path::run;
 use crate::rooms;
 use crate::table;
+use crate::unknown;
+use crate::worked;
 
 fn at_all_entries(cases: Vec<Case>) -> impl Iterator<Item = Item> {
     cases.into_iter().flat_map(|case| ENTRIES.map(|entry| Item { entry, case: case.clone() }))
@@ -58,6 +60,9 @@ fn random_case(lines: &[Line], dice: &mut Dice) -> Case {
         36 => rooms::random(dice),
         _ => weighted(lines, dice).case(0, dice),
     };
+    if dice.once_in(12) {
+        case = unknown::made(case, dice);
+    }
     if dice.once_in(20) {
         case.area = Area { length: [0, 16386, 16388, 20000, 40960][dice.below(5) as usize], ..case.area };
     }
@@ -89,6 +94,7 @@ pub fn long(seed: u64, count: usize) -> Vec<Item> {
     let mut items: Vec<Item> =
         documents.iter().filter(|case| case.query.len() > 9 && case.query.len() < 20).flat_map(damaged).collect();
     items.extend(at_all_entries(documents));
+    items.extend(at_all_entries(worked::cases(&mut dice)));
     items.extend(at_all_entries(list::cases(list::SMALL, &mut dice)));
     items.extend(at_all_entries(list::cases(list::SIZES, &mut dice)));
     let lines = list::lines(list::RANDOM);
@@ -103,6 +109,7 @@ pub fn long(seed: u64, count: usize) -> Vec<Item> {
 pub fn short() -> Vec<Item> {
     let mut dice = Dice::new(1);
     let mut items: Vec<Item> = at_all_entries(table::cases(&mut dice)).collect();
+    items.extend(at_all_entries(worked::cases(&mut dice)));
     items.extend(at_all_entries(list::cases(list::SMALL, &mut dice)));
     let lines = list::lines(list::RANDOM);
     let count = items.len() + 300;

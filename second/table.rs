@@ -15,7 +15,8 @@ struct Row {
     goal: Option<Vec<u8>>,
 }
 
-fn texts(book: &str, query: &str) -> (Vec<u8>, Vec<u8>) {
+/// A book and a query as bytes.
+pub fn texts(book: &str, query: &str) -> (Vec<u8>, Vec<u8>) {
     let mut names = Names::default();
     let clauses = Text::new(book, &mut names).clauses().expect(book);
     let goal = Text::new(query, &mut names).query().expect(query);
