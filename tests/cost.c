@@ -1,4 +1,5 @@
-/* cost SHAPE SIZE STEPS: a run from a goal of so many nodes (or levels) that is stuck at once (0), or after one step, at a goal of as many nodes (1). */
+/* cost SHAPE SIZE STEPS: a run from a goal of so many nodes (or levels) whose predicate no rule has (0), or that comes after one step to a goal of as many nodes whose
+   predicate no rule has (1). */
 #include <stddef.h>
 #include <stdlib.h>
 #include <string.h>
@@ -149,7 +150,7 @@ int main(int words, char **word) {
         if (strcmp(word[1], shapes[i].name)) continue;
         shapes[i].build((unsigned)atoi(word[2]));
         uint64_t answer = pitxargole_run(10000, book, book_length, query, query_length, area, sizeof area);
-        return pitxargole_code(answer) == PITXARGOLE_STUCK && pitxargole_steps(answer) == steps ? 0 : 1;
+        return pitxargole_code(answer) == PITXARGOLE_UNKNOWN && pitxargole_steps(answer) == steps ? 0 : 1;
     }
     return 2;
 }
