@@ -11,14 +11,14 @@ use lib.Seq.{getD-take, getD-drop}
 use Rattle.terms.specs.Node.{predicate, sym, Expr}
 use Rattle.terms.specs.Row.{Row}
 use Rattle.terms.specs.RowLaws.{row-long}
-use Rattle.search.specs.Next.{Clause, Book}
+use Rattle.search.specs.Next.{Clause, Book, clause-at}
 use Rattle.search.specs.Known.{symbol-of, Alike, Known}
 use Rattle.words.specs.Word.{kindOf, arityOf, nodes}
 use Rattle.words.specs.Flat.{flat}
 use Rattle.words.specs.WordLaws.{node-pred}
 use Rattle.words.specs.PackLaws.{same-word}
 use Rattle.words.specs.Columns.{every, every-at}
-use Rattle.words.specs.Held.{GoalIn, ClauseIn, clause-at, BookOn}
+use Rattle.words.specs.Held.{GoalIn, ClauseIn, BookOn}
 use Rattle.words.specs.HeldLaws.{headed, first-kind}
 use Rattle.picking.proofs.Picks.{placed-at, head-placed}
 
