@@ -8,10 +8,14 @@ use mathlib.Core.List.{List}
 use Rattle.terms.specs.When.{_⇒_∣_}
 use Rattle.records.specs.Format.{Bytes}
 use Rattle.engine.specs.declared.Answer.{Answer}
-use Rattle.engine.specs.Outcome.{runAnswer}
+use Rattle.engine.specs.declared.Picked.{Picked}
+use Rattle.engine.specs.declared.Stepped.{Stepped}
+use Rattle.engine.specs.Outcome.{runAnswer, pickAnswer, applyAnswer}
 use Rattle.engine.specs.Firmware.{field, number, code-back, field-back, steps-back, field-narrow}
 use Rattle.engine.specs.Figures.{answer-code, run-narrow}
 use Rattle.engine.specs.Zeros.{run-refuses}
+use Rattle.engine.specs.CallNumbers.{pickNumber, applyField, applyNumber, apply-field-narrow}
+use Rattle.engine.specs.CallFigures.{pick-clause, pick-place, pick-small, pick-narrow, apply-narrow, apply-code, apply-refuses}
 
 module _ (a : Answer) where
   field-place : a .code < 20 → field a ≡ a .place
@@ -38,3 +42,45 @@ module _ (book query : List ℕ) (budget : ℕ) (area : List ℕ) where
       let c : answer .code < 256 = omega (arith, answer-code book query budget area) in
       let f = field-narrow answer (run-narrow book query budget area bytes) in
       (code-back (answer .code) (field answer) (answer .steps) c f, field-back (answer .code) (field answer) (answer .steps) c f, steps-back (answer .code) (field answer) (answer .steps) c f)
+
+-- The pick: the place where it is refused, and the clause number otherwise.
+module _ (book query : List ℕ) where
+  abbrev picked : Picked
+  picked = pickAnswer book query
+
+  pub pick-number-refused : picked .code < 20 → pickNumber picked ≡ picked .code + 256 * picked .place
+  pick-number-refused l = omega (arith, pick-clause book query (λ e. omega (arith, l, e)))
+
+  pub pick-number-taken : 20 ≤ picked .code → pickNumber picked ≡ picked .code + 4294967296 * picked .clause
+  pick-number-taken h = omega (arith, pick-place book query h)
+
+  pub pick-number-parts : (pickNumber picked % 256 ≡ picked .code) × (pickNumber picked / 256 % 2 ^ 24 ≡ picked .place) × (pickNumber picked / 2 ^ 32 ≡ picked .clause)
+  pick-number-parts =
+      let c : picked .code < 256 = omega (arith, pick-small book query .0) in
+      let f = pick-narrow book query in
+      (code-back (picked .code) (picked .place) (picked .clause) c f, field-back (picked .code) (picked .place) (picked .clause) c f, steps-back (picked .code) (picked .place) (picked .clause) c f)
+
+-- The apply call: the place where its input is refused, nothing beside the code where it is refused otherwise, and the bytes and the clause number where it is taken.
+module _ (book query : List ℕ) (clause : ℕ) (area : List ℕ) where
+  abbrev applied : Stepped
+  applied = applyAnswer book query clause area
+
+  apply-field-bytes : 20 ≤ applied .code → applyField applied ≡ applied .bytes
+  apply-field-bytes h = ap (λ b. b ⇒ applied .place ∣ applied .bytes) (le-ltb (applied .code) 20 h)
+
+  pub apply-number-refused : applied .code < 20 → applyNumber applied ≡ applied .code + 256 * applied .place
+  apply-number-refused l =
+      let e : applyField applied ≡ applied .place = ap (λ b. b ⇒ applied .place ∣ applied .bytes) (lt-ltb (applied .code) 20 l) in
+      omega (arith, e, apply-refuses book query clause area (λ e. omega (arith, l, e)) .2)
+
+  pub apply-number-not-taken : 20 ≤ applied .code → (applied .code ≡ 25 → ⊥) → applyNumber applied ≡ applied .code
+  apply-number-not-taken h n = let z = apply-refuses book query clause area n in omega (arith, apply-field-bytes h, z .1, z .2)
+
+  pub apply-number-taken : 20 ≤ applied .code → applyNumber applied ≡ applied .code + 256 * applied .bytes + 4294967296 * applied .clause
+  apply-number-taken h = omega (arith, apply-field-bytes h)
+
+  pub apply-number-parts : (applyNumber applied % 256 ≡ applied .code) × (applyNumber applied / 256 % 2 ^ 24 ≡ applyField applied) × (applyNumber applied / 2 ^ 32 ≡ applied .clause)
+  apply-number-parts =
+      let c : applied .code < 256 = omega (arith, apply-code book query clause area) in
+      let f = apply-field-narrow applied (apply-narrow book query clause area) in
+      (code-back (applied .code) (applyField applied) (applied .clause) c f, field-back (applied .code) (applyField applied) (applied .clause) c f, steps-back (applied .code) (applyField applied) (applied .clause) c f)

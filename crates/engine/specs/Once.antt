@@ -3,9 +3,11 @@ use Prim.Native.Nat.{ℕ}
 use mathlib.Core.Path.{_≡_, sym as inv, _∙_}
 use mathlib.Core.List.{List}
 use Rattle.engine.specs.declared.Answer.{Answer}
+use Rattle.engine.specs.declared.Picked.{Picked}
 use Rattle.engine.specs.declared.Stepped.{Stepped}
-use Rattle.engine.specs.Outcome.{stepAnswer, stepArea, runAnswer, runArea}
+use Rattle.engine.specs.Outcome.{stepAnswer, stepArea, pickAnswer, applyAnswer, applyArea, runAnswer, runArea}
 use Rattle.engine.specs.Firmware.{number}
+use Rattle.engine.specs.CallNumbers.{pickNumber, applyNumber}
 
 -- an answer and an area that are both settled
 settled : {A : Type 0} {a r r′ : A} {left after after′ : List ℕ} → r ≡ a → after ≡ left → r′ ≡ a → after′ ≡ left → (r ≡ r′) × (after ≡ after′)
@@ -23,3 +25,20 @@ module _ (book query : List ℕ) (budget : ℕ) (area : List ℕ) where
   pub firmware-once : {r r′ : ℕ} {after after′ : List ℕ} → r ≡ number (runAnswer book query budget area) → after ≡ runArea book query budget area →
       r′ ≡ number (runAnswer book query budget area) → after′ ≡ runArea book query budget area → (r ≡ r′) × (after ≡ after′)
   firmware-once = settled
+
+-- The two calls of a single step (document 02, C-16).
+module _ (book query : List ℕ) where
+  pub pick-once : {r r′ : Picked} → r ≡ pickAnswer book query → r′ ≡ pickAnswer book query → r ≡ r′
+  pick-once p p′ = p ∙ inv p′
+
+  pub pick-number-once : {r r′ : ℕ} → r ≡ pickNumber (pickAnswer book query) → r′ ≡ pickNumber (pickAnswer book query) → r ≡ r′
+  pick-number-once p p′ = p ∙ inv p′
+
+module _ (book query : List ℕ) (clause : ℕ) (area : List ℕ) where
+  pub apply-once : {r r′ : Stepped} {after after′ : List ℕ} → r ≡ applyAnswer book query clause area → after ≡ applyArea book query clause area →
+      r′ ≡ applyAnswer book query clause area → after′ ≡ applyArea book query clause area → (r ≡ r′) × (after ≡ after′)
+  apply-once = settled
+
+  pub apply-number-once : {r r′ : ℕ} {after after′ : List ℕ} → r ≡ applyNumber (applyAnswer book query clause area) → after ≡ applyArea book query clause area →
+      r′ ≡ applyNumber (applyAnswer book query clause area) → after′ ≡ applyArea book query clause area → (r ≡ r′) × (after ≡ after′)
+  apply-number-once = settled

@@ -1,0 +1,9 @@
+use mathlib.Core.Path.{ap, _∙_}
+use Rattle.engine.specs.CallFigures.{pick-narrow}
+use Rattle.engine.specs.CallNumbers.{pickNumber}
+use borrow.Author.Needs.{needs}
+use Rattle.engine.proofs.firmware.pitxargole_pick.Statement.{statement}
+use Rattle.engine.proofs.firmware.pitxargole_pick.Tie as tie
+
+pub pitxargole-pick-spec : {M : Type 1} → statement M
+pitxargole-pick-spec = tie.close (tie.spec (λ c κs. search needs) (λ c κs. rw (c .pick .ensures) (pick-narrow _ _)) (λ c. c .pack .ensures ∙ ap pickNumber (c .before .pick .ensures)))
