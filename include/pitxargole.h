@@ -1,4 +1,4 @@
-/* Pitxargole, the run for C firmware (document 01). Link with the archive that `rt staticlib engine` writes. */
+/* Pitxargole for C firmware: the run (document 01), and the single step in two, pick and apply (document 02, C-16). Link with the archive that `rt staticlib engine` writes. */
 #ifndef PITXARGOLE_H
 #define PITXARGOLE_H
 
@@ -23,23 +23,41 @@ extern "C" {
 #define PITXARGOLE_QUERY_RANGE 14
 #define PITXARGOLE_QUERY_SIZE 15
 #define PITXARGOLE_QUERY_VARIABLE 16
-/* The run closed, and its last goal's image stands at the front of the area: */
+/* A run closed, and its last goal's image stands at the front of the area: */
 #define PITXARGOLE_SOLVED 20  /* goal empty */
 #define PITXARGOLE_LOOP 21    /* the search never ends */
 #define PITXARGOLE_STUCK 22   /* the book has clauses for the leftmost formula's predicate and arity, and none of their heads unifies with it */
 #define PITXARGOLE_STEPS 23   /* steps used up */
 #define PITXARGOLE_ROOM 24    /* the next goal has over 512 formulas or 4,096 nodes */
 #define PITXARGOLE_UNKNOWN 26 /* the book has no clause for the leftmost formula's predicate and arity: a slip of the pen, most likely */
+/* A pick gives SOLVED, STUCK or UNKNOWN of the query itself, or else STEP. An apply gives STEP, and the next goal's image stands at the front of the
+   area; or it gives SOLVED, NO_CLAUSE, NO_FIT or ROOM, tested in this order, and the area is as it was. */
+#define PITXARGOLE_STEP 25      /* the clause is picked, or the step is taken */
+#define PITXARGOLE_NO_CLAUSE 32 /* the book has no clause of that number */
+#define PITXARGOLE_NO_FIT 33    /* the clause's head does not unify with the leftmost formula */
 
-/* Runs the query by the book for at most `budget` steps. Every book and query, however damaged, gets one answer. The pointers are not
-   null, also where a length is 0, and `area` overlaps neither book nor query. Lengths have 64 bits on every processor. */
+/* Every book and query, however damaged, gets one answer. The pointers are not null, also where a length is 0, and `area` overlaps neither book nor
+   query. Lengths have 64 bits on every processor.
+
+   Runs the query by the book for at most `budget` steps. */
 uint64_t pitxargole_run(uint32_t budget, const uint8_t *book, uint64_t book_length, const uint8_t *query, uint64_t query_length, uint8_t *area,
                         uint64_t area_length);
 
-/* The parts of the answer, by the engine's own proved functions: */
+/* Says which clause the next step of the query would take. It needs no area, and does not look at the next goal's size. */
+uint64_t pitxargole_pick(const uint8_t *book, uint64_t book_length, const uint8_t *query, uint64_t query_length);
+
+/* Takes one step by the clause of that number, from 0, be it the picked one or another whose head unifies. To go on from the next goal, give it as the
+   query together with another area. */
+uint64_t pitxargole_apply(uint32_t clause, const uint8_t *book, uint64_t book_length, const uint8_t *query, uint64_t query_length, uint8_t *area,
+                          uint64_t area_length);
+
+/* The parts of an answer, by the engine's own proved functions: */
 uint8_t pitxargole_code(uint64_t answer);
 uint32_t pitxargole_place_or_bytes(uint64_t answer); /* the place of the first fault for codes 1 to 19, and the bytes written otherwise */
-uint32_t pitxargole_steps(uint64_t answer);
+uint32_t pitxargole_steps(uint64_t answer);          /* of a run */
+
+/* The clause number that a pick or an apply gives with STEP. */
+static inline uint32_t pitxargole_clause(uint64_t answer) { return (uint32_t)(answer >> 32) & 0xffff; }
 
 #ifdef __cplusplus
 }

@@ -1,6 +1,6 @@
 // What must come out: a line for each item of a stream.
+use crate::entries::{Answer, apply, pick, run, step};
 use crate::item::{Case, Entry, Item};
-use crate::path::{Answer, run, step};
 use crate::period;
 use crate::read::{self, Refusal};
 
@@ -17,33 +17,58 @@ fn check(counted: Result<usize, Refusal>) -> String {
     }
 }
 
-/// "For C the answer is one 64-bit number."
-fn number(a: &Answer) -> u64 {
+/// "For C the answer is one 64-bit number", with the steps of a run, or the clause number of a pick and of an apply, in its top 32 bits.
+fn number(a: &Answer, top: u32) -> u64 {
     let field = if a.code < 20 { a.place } else { a.bytes };
-    a.code as u64 + field as u64 * 256 + a.steps as u64 * 4294967296
+    a.code as u64 + field as u64 * 256 + top as u64 * 4294967296
 }
 
-fn lent(entry: Entry, case: &Case) -> Result<String, String> {
-    let mut area = case.area.bytes();
-    if entry == Entry::Step {
-        let a = step(&case.book, &case.query, &mut area);
-        let Answer { code, place, steps, span, bytes, clause } = a;
-        return Ok(format!("{code} {place} {steps} {span} {bytes} {clause} {}", sum(&area)));
-    }
-    let a = run(&case.book, &case.query, case.budget, &mut area);
+fn six(a: &Answer) -> String {
+    format!("{} {} {} {} {} {}", a.code, a.place, a.steps, a.span, a.bytes, a.clause)
+}
+
+fn of_run(case: &Case, area: &mut [u8]) -> Result<Answer, String> {
+    let a = run(&case.book, &case.query, case.number, area);
     if a.code == 21 {
         period::shortest(case, &a)?;
     }
-    if entry == Entry::RunForC {
-        return Ok(format!("{} {}", number(&a), sum(&area)));
+    Ok(a)
+}
+
+/// The numbers of an entry that is lent an area, and what the area holds then.
+fn lent(entry: Entry, case: &Case) -> Result<String, String> {
+    let mut area = case.area.bytes();
+    let numbers = match entry {
+        Entry::Step => six(&step(&case.book, &case.query, &mut area)),
+        Entry::Apply => six(&apply(&case.book, &case.query, case.number, &mut area)),
+        Entry::ApplyForC => {
+            let a = apply(&case.book, &case.query, case.number, &mut area);
+            number(&a, a.clause).to_string()
+        }
+        Entry::RunForC => {
+            let a = of_run(case, &mut area)?;
+            number(&a, a.steps).to_string()
+        }
+        _ => {
+            let a = of_run(case, &mut area)?;
+            format!("{} {} {} {} {}", a.code, a.place, a.steps, a.span, a.bytes)
+        }
+    };
+    Ok(format!("{numbers} {}", sum(&area)))
+}
+
+fn picked(entry: Entry, a: Answer) -> String {
+    if entry == Entry::PickForC {
+        return number(&a, a.clause).to_string();
     }
-    Ok(format!("{} {} {} {} {} {}", a.code, a.place, a.steps, a.span, a.bytes, sum(&area)))
+    format!("{} {} {} {}", a.code, a.place, a.steps, a.clause)
 }
 
 pub fn line(item: &Item) -> Result<String, String> {
     match item.entry {
         Entry::CheckBook => Ok(check(read::book(&item.case.book).map(|clauses| clauses.len()))),
         Entry::CheckQuery => Ok(check(read::query(&item.case.query).map(|goal| crate::tree::nodes(&goal)))),
+        entry @ (Entry::Pick | Entry::PickForC) => Ok(picked(entry, pick(&item.case.book, &item.case.query))),
         entry => lent(entry, &item.case),
     }
 }

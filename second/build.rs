@@ -64,5 +64,5 @@ pub fn goal(formulas: &[Formula]) -> Goal {
 }
 
 pub fn case(clauses: &[Clause], formulas: &[Formula], budget: u32, dice: &mut Dice) -> Case {
-    Case { book: image::of_book(clauses), query: image::of(&goal(formulas)), budget, area: Area::usual(dice) }
+    Case { book: image::of_book(clauses), query: image::of(&goal(formulas)), number: budget, area: Area::usual(dice) }
 }

@@ -6,7 +6,8 @@ use crate::dice::Dice;
 pub struct Case {
     pub book: Vec<u8>,
     pub query: Vec<u8>,
-    pub budget: u32,
+    /// A run's budget, or the clause number of an apply.
+    pub number: u32,
     pub area: Area,
 }
 
@@ -36,11 +37,23 @@ pub enum Entry {
     Step,
     Run,
     RunForC,
+    Pick,
+    Apply,
+    PickForC,
+    ApplyForC,
 }
 
-pub const ENTRIES: [Entry; 5] = [Entry::CheckBook, Entry::CheckQuery, Entry::Step, Entry::Run, Entry::RunForC];
+use Entry::*;
+pub const ENTRIES: [Entry; 9] = [CheckBook, CheckQuery, Step, Run, RunForC, Pick, Apply, PickForC, ApplyForC];
 
-/// A check of a book has no use for the query, nor for budget and area; the others likewise.
+impl Entry {
+    /// Whether it is lent a goal area.
+    pub fn has_area(self) -> bool {
+        matches!(self, Step | Run | RunForC | Apply | ApplyForC)
+    }
+}
+
+/// A check of a book has no use for the query, nor for number and area; a pick has none for number and area; the others likewise.
 pub struct Item {
     pub entry: Entry,
     pub case: Case,
@@ -56,12 +69,12 @@ fn number(bytes: &[u8]) -> usize {
 
 impl Item {
     pub fn bytes(&self) -> Vec<u8> {
-        let Case { book, query, budget, area } = &self.case;
+        let Case { book, query, number, area } = &self.case;
         let rest = match self.entry {
             Entry::CheckBook => book.clone(),
             Entry::CheckQuery => query.clone(),
             _ => {
-                [&budget.to_be_bytes()[..], &four(area.length), &[area.first, area.more], &four(book.len()), book, query].concat()
+                [&number.to_be_bytes()[..], &four(area.length), &[area.first, area.more], &four(book.len()), book, query].concat()
             }
         };
         [&[self.entry as u8][..], &four(rest.len()), &rest].concat()
@@ -72,13 +85,13 @@ impl Item {
         let entry = *ENTRIES.iter().find(|e| **e as u8 == stream[0])?;
         let length = number(stream.get(1..5)?);
         let (rest, after) = (stream.get(5..5 + length)?, &stream[5 + length..]);
-        let mut case = Case { book: Vec::new(), query: Vec::new(), budget: 0, area: Area { length: 0, first: 0, more: 0 } };
+        let mut case = Case { book: Vec::new(), query: Vec::new(), number: 0, area: Area { length: 0, first: 0, more: 0 } };
         match entry {
             Entry::CheckBook => case.book = rest.to_vec(),
             Entry::CheckQuery => case.query = rest.to_vec(),
             _ => {
                 let book = number(rest.get(10..14)?);
-                case.budget = number(&rest[..4]) as u32;
+                case.number = number(&rest[..4]) as u32;
                 case.area = Area { length: number(&rest[4..8]), first: rest[8], more: rest[9] };
                 case.book = rest.get(14..14 + book)?.to_vec();
                 case.query = rest[14 + book..].to_vec();

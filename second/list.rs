@@ -54,7 +54,7 @@ impl Line {
         let book = play(self.book, &numbers, dice);
         let query = play(self.query, &numbers, dice);
         let area = Area { length: self.number("area", 16387, turn, dice) as usize, ..Area::usual(dice) };
-        Case { book, query, budget: self.number("budget", 1000, turn, dice), area }
+        Case { book, query, number: self.number("budget", 1000, turn, dice), area }
     }
 }
 

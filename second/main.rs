@@ -13,6 +13,7 @@ mod chains;
 mod circles;
 mod deep;
 mod dice;
+mod entries;
 mod image;
 mod item;
 mod list;
@@ -64,7 +65,7 @@ fn show(stream: &[u8], n: &str) -> Done {
     let n: usize = n.parse().map_err(|_| "an item's number is from 1 on")?;
     let items = items(stream)?;
     let Item { entry, case } = items.get(n.wrapping_sub(1)).ok_or("there is no such item")?;
-    println!("{entry:?}, budget {}, area {} from {} by {}", case.budget, case.area.length, case.area.first, case.area.more);
+    println!("{entry:?}, number {}, area {} from {} by {}", case.number, case.area.length, case.area.first, case.area.more);
     println!("book {:02x?}\nquery {:02x?}", case.book, case.query);
     Ok(())
 }
@@ -86,7 +87,7 @@ fn trace(input: &[u8]) -> String {
         return "short".to_string();
     }
     let (book, query) = input[8..].split_at(number(&input[4..8]) as usize);
-    let a = path::run(book, query, number(&input[..4]), &mut [0; 16387]);
+    let a = entries::run(book, query, number(&input[..4]), &mut [0; 16387]);
     format!("{} {} {} {} {}", a.code, a.place, a.steps, a.span, a.bytes)
 }
 

@@ -1,22 +1,10 @@
 // The path and its detection states.
-use crate::image;
-use crate::read;
 use crate::tree::{Clause, Formula, Goal, Term, Tree, essentially_the_same, moved, unused};
 use crate::unify::{Solution, unify};
 use std::collections::HashMap;
 use std::rc::Rc;
 
-#[derive(Default, Clone, Copy, PartialEq, Debug)]
-pub struct Answer {
-    pub code: u8,
-    pub place: u32,
-    pub steps: u32,
-    pub span: u32,
-    pub bytes: u32,
-    pub clause: u32,
-}
-
-struct NoRoom;
+pub struct NoRoom;
 
 /// Writes a goal out anew under a solution: variables numbered by first appearance, at most 4,096 nodes.
 struct Copier<'a> {
@@ -55,28 +43,36 @@ impl Copier<'_> {
     }
 }
 
-/// The first clause whose head unifies with the leftmost formula.
-fn fitting(clauses: &[Clause], goal: &Goal) -> Option<(usize, u32, Solution)> {
+/// How far a clause's variables are moved up, to be none of the goal's, and a most general unifier of its head with the leftmost formula.
+pub struct Fit {
+    apart: u32,
+    solution: Solution,
+}
+
+pub fn fit(clause: &Clause, goal: &Goal) -> Option<Fit> {
+    if !clause.head.same_predicate(&goal[0]) {
+        return None;
+    }
     let apart = unused(goal);
-    clauses.iter().enumerate().find_map(|(number, clause)| {
-        if !clause.head.same_predicate(&goal[0]) {
-            return None;
-        }
-        unify(&goal[0], &moved(&clause.head, apart)).map(|solution| (number, apart, solution))
-    })
+    unify(&goal[0], &moved(&clause.head, apart)).map(|solution| Fit { apart, solution })
+}
+
+/// The first clause whose head unifies with the leftmost formula.
+pub fn fitting(clauses: &[Clause], goal: &Goal) -> Option<(usize, Fit)> {
+    clauses.iter().enumerate().find_map(|(number, clause)| Some((number, fit(clause, goal)?)))
 }
 
 /// What no fitting clause means: 22 where the book has clauses of the leftmost formula's predicate and arity, and 26 where it has none.
-fn none_fits(clauses: &[Clause], goal: &Goal) -> u8 {
+pub fn none_fits(clauses: &[Clause], goal: &Goal) -> u8 {
     if clauses.iter().any(|clause| clause.head.same_predicate(&goal[0])) { 22 } else { 26 }
 }
 
 /// The formula replaced by the body, the unifier applied throughout, the variables numbered anew.
-fn next(clause: &Clause, apart: u32, solution: &Solution, goal: &Goal) -> Result<Goal, NoRoom> {
-    let mut copier = Copier { solution, names: HashMap::new(), nodes: 0 };
+pub fn next(clause: &Clause, fit: &Fit, goal: &Goal) -> Result<Goal, NoRoom> {
+    let mut copier = Copier { solution: &fit.solution, names: HashMap::new(), nodes: 0 };
     let mut made = Vec::new();
     for formula in &clause.body {
-        made.push(copier.formula(&moved(formula, apart))?);
+        made.push(copier.formula(&moved(formula, fit.apart))?);
     }
     for formula in &goal[1..] {
         made.push(copier.formula(formula)?);
@@ -93,19 +89,19 @@ pub enum Next {
 
 /// The goal after a goal that is not empty.
 pub fn next_goal(clauses: &[Clause], goal: &Goal) -> Next {
-    let Some((number, apart, solution)) = fitting(clauses, goal) else { return Next::Stuck };
-    match next(&clauses[number], apart, &solution, goal) {
+    let Some((number, fit)) = fitting(clauses, goal) else { return Next::Stuck };
+    match next(&clauses[number], &fit, goal) {
         Ok(goal) => Next::Goal(number, goal),
         Err(NoRoom) => Next::NoRoom,
     }
 }
 
-struct State {
-    t: u32,
+pub struct State {
+    pub t: u32,
     length: usize,
     formula: Option<Formula>,
     saved_at: u32,
-    goal: Goal,
+    pub goal: Goal,
 }
 
 impl State {
@@ -128,7 +124,7 @@ fn on_schedule(t: u32) -> bool {
 }
 
 /// Goes along the path to the closing state: its code and span, and the state.
-fn follow(clauses: &[Clause], query: Goal, budget: u32) -> (u8, u32, State) {
+pub fn follow(clauses: &[Clause], query: Goal, budget: u32) -> (u8, u32, State) {
     let mut state = State { t: 0, length: 0, formula: None, saved_at: 0, goal: query };
     loop {
         if state.goal.is_empty() {
@@ -137,61 +133,17 @@ fn follow(clauses: &[Clause], query: Goal, budget: u32) -> (u8, u32, State) {
         if state.looped() {
             return (21, state.t - state.saved_at, state);
         }
-        let Some((number, apart, solution)) = fitting(clauses, &state.goal) else {
+        let Some((number, fit)) = fitting(clauses, &state.goal) else {
             return (none_fits(clauses, &state.goal), 0, state);
         };
         if state.t == budget {
             return (23, 0, state);
         }
-        let Ok(goal) = next(&clauses[number], apart, &solution, &state.goal) else { return (24, 0, state) };
+        let Ok(goal) = next(&clauses[number], &fit, &state.goal) else { return (24, 0, state) };
         if on_schedule(state.t) || state.goal.len() < state.length {
             state.save();
         }
         state.goal = goal;
         state.t += 1;
-    }
-}
-
-fn refused(refusal: read::Refusal) -> Answer {
-    Answer { code: refusal.code, place: refusal.place, ..Answer::default() }
-}
-
-fn inputs(book: &[u8], query: &[u8], area: &[u8]) -> Result<(Vec<Clause>, Goal), Answer> {
-    if area.len() < 16387 {
-        return Err(Answer { code: 1, ..Answer::default() });
-    }
-    let clauses = read::book(book).map_err(refused)?;
-    Ok((clauses, read::query(query).map_err(refused)?))
-}
-
-fn write(goal: &Goal, area: &mut [u8]) -> u32 {
-    let image = image::of(goal);
-    area[..image.len()].copy_from_slice(&image);
-    image.len() as u32
-}
-
-pub fn run(book: &[u8], query: &[u8], budget: u32, area: &mut [u8]) -> Answer {
-    let (clauses, goal) = match inputs(book, query, area) {
-        Ok(good) => good,
-        Err(answer) => return answer,
-    };
-    let (code, span, state) = follow(&clauses, goal, budget);
-    Answer { code, place: 0, steps: state.t, span, bytes: write(&state.goal, area), clause: 0 }
-}
-
-pub fn step(book: &[u8], query: &[u8], area: &mut [u8]) -> Answer {
-    let (clauses, goal) = match inputs(book, query, area) {
-        Ok(good) => good,
-        Err(answer) => return answer,
-    };
-    if goal.is_empty() {
-        return Answer { code: 20, ..Answer::default() };
-    }
-    match next_goal(&clauses, &goal) {
-        Next::Stuck => Answer { code: none_fits(&clauses, &goal), ..Answer::default() },
-        Next::NoRoom => Answer { code: 24, ..Answer::default() },
-        Next::Goal(number, goal) => {
-            Answer { code: 25, place: 0, steps: 1, span: 0, bytes: write(&goal, area), clause: number as u32 }
-        }
     }
 }

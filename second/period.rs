@@ -1,6 +1,7 @@
 // Whether the span of a loop is the shortest period of the leftmost formula (document 02, C-23), by walking that formula alone.
+use crate::entries::Answer;
 use crate::item::Case;
-use crate::path::{Answer, Next, next_goal};
+use crate::path::{Next, next_goal};
 use crate::read;
 use crate::tree::{Clause, Formula, Goal, essentially_the_same};
 

@@ -3,16 +3,33 @@ use crate::chains;
 use crate::circles;
 use crate::deep;
 use crate::dice::Dice;
+use crate::entries::run;
 use crate::item::{Area, Case, ENTRIES, Entry, Item};
 use crate::list::{self, Line};
-use crate::path::run;
+use crate::read;
 use crate::rooms;
 use crate::table;
 use crate::unknown;
 use crate::worked;
 
+/// The clause numbers that are tried with a book: each from 0 to one past the book's, of a long book the first ones and the last; and the largest number.
+fn clause_numbers(book: &[u8], long: usize) -> Vec<u32> {
+    let count = read::book(book).map_or(0, |clauses| clauses.len() as u32);
+    let tried = |n: &u32| book.len() < long || *n < 2 || *n + 2 > count;
+    (0..=count).filter(tried).chain([u32::MAX]).collect()
+}
+
+fn applied(entry: Entry, case: &Case) -> Vec<Item> {
+    let numbers = clause_numbers(&case.book, if entry == Entry::Apply { 5000 } else { 500 });
+    numbers.into_iter().map(|number| Item { entry, case: Case { number, ..case.clone() } }).collect()
+}
+
 fn at_all_entries(cases: Vec<Case>) -> impl Iterator<Item = Item> {
-    cases.into_iter().flat_map(|case| ENTRIES.map(|entry| Item { entry, case: case.clone() }))
+    let at = |case: &Case, entry: Entry| match entry {
+        Entry::Apply | Entry::ApplyForC => applied(entry, case),
+        _ => vec![Item { entry, case: case.clone() }],
+    };
+    cases.into_iter().flat_map(move |case| ENTRIES.map(|entry| at(&case, entry))).flatten()
 }
 
 /// Cut at every byte, with a byte more, and with each byte changed to the kinds and the limits.
@@ -34,7 +51,7 @@ fn at_every_byte(bytes: &[u8]) -> Vec<Vec<u8>> {
 
 /// The same of a case's book and of its query, at the checks and as short runs.
 fn damaged(case: &Case) -> Vec<Item> {
-    let case = Case { budget: 20, ..case.clone() };
+    let case = Case { number: 20, ..case.clone() };
     let books = at_every_byte(&case.book).into_iter().map(|book| (Entry::CheckBook, Case { book, ..case.clone() }));
     let queries = at_every_byte(&case.query).into_iter().map(|query| (Entry::CheckQuery, Case { query, ..case.clone() }));
     books.chain(queries).flat_map(|(check, case)| [check, Entry::Run].map(|entry| Item { entry, case: case.clone() })).collect()
@@ -69,22 +86,41 @@ fn random_case(lines: &[Line], dice: &mut Dice) -> Case {
     case
 }
 
-/// The case at one entry, or as runs with budgets around its closing step.
-fn random_items(lines: &[Line], dice: &mut Dice) -> Vec<Item> {
-    let case = random_case(lines, dice);
-    if dice.once_in(8) {
-        let t = run(&case.book, &case.query, case.budget.min(300), &mut [0; 16387]).steps;
-        let budgets = [t.saturating_sub(1), t, t + 1];
-        return budgets.map(|budget| Item { entry: Entry::Run, case: Case { budget, ..case.clone() } }).into();
-    }
-    let entry = match dice.below(16) {
+/// Runs with budgets around the closing step.
+fn around_the_end(case: &Case) -> Vec<Item> {
+    let t = run(&case.book, &case.query, case.number.min(300), &mut [0; 16387]).steps;
+    let budgets = [t.saturating_sub(1), t, t + 1];
+    budgets.map(|number| Item { entry: Entry::Run, case: Case { number, ..case.clone() } }).into()
+}
+
+/// A step, what the pick says before it, and the apply of each clause.
+fn in_two(case: &Case, dice: &mut Dice) -> Vec<Item> {
+    let [pick, apply] = if dice.once_in(4) { [Entry::PickForC, Entry::ApplyForC] } else { [Entry::Pick, Entry::Apply] };
+    let mut items: Vec<Item> = [Entry::Step, pick].map(|entry| Item { entry, case: case.clone() }).into();
+    items.extend(applied(apply, case));
+    items
+}
+
+fn random_entry(dice: &mut Dice) -> Entry {
+    match dice.below(18) {
         0 => Entry::CheckBook,
         1 => Entry::CheckQuery,
         2..7 => Entry::Step,
         7..14 => Entry::Run,
-        _ => Entry::RunForC,
-    };
-    vec![Item { entry, case }]
+        14..16 => Entry::RunForC,
+        16 => Entry::Pick,
+        _ => Entry::PickForC,
+    }
+}
+
+/// The case at one entry, or at several.
+fn random_items(lines: &[Line], dice: &mut Dice) -> Vec<Item> {
+    let case = random_case(lines, dice);
+    match dice.below(16) {
+        0..2 => around_the_end(&case),
+        2 => in_two(&case, dice),
+        _ => vec![Item { entry: random_entry(dice), case }],
+    }
 }
 
 /// So many items, from a seed: first those that are always there.

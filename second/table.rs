@@ -1,9 +1,9 @@
 // Document 01's table, the errors that look reasonable, and document 001's figure 1, from their own notation, with the results that the documents give.
 use crate::dice::Dice;
+use crate::entries::{Answer, run};
 use crate::image;
 use crate::item::{Area, Case};
 use crate::notation::{Names, Text};
-use crate::path::{Answer, run};
 
 /// Code, place, steps and span, and the goal that is left where a document says so.
 struct Row {
@@ -91,6 +91,6 @@ pub fn all_wrong() -> Vec<String> {
 }
 
 pub fn cases(dice: &mut Dice) -> Vec<Case> {
-    let case = |Row { book, query, budget, .. }| Case { book, query, budget, area: Area::usual(dice) };
+    let case = |Row { book, query, budget, .. }| Case { book, query, number: budget, area: Area::usual(dice) };
     rows().into_iter().map(case).collect()
 }

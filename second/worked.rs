@@ -12,7 +12,7 @@ fn rows(dice: &mut Dice) -> Vec<(Case, Vec<&'static str>)> {
         let mut parts = line.split('|').map(str::trim);
         let (book, query) = parts.next().and_then(|inputs| inputs.split_once("?-")).expect("a book and a query");
         let (book, query) = texts(book, query);
-        (Case { book, query, budget: 10000, area: Area::usual(dice) }, parts.collect())
+        (Case { book, query, number: 10000, area: Area::usual(dice) }, parts.collect())
     };
     WORKED.lines().filter(|line| !line.starts_with('#')).map(row).collect()
 }
@@ -26,10 +26,10 @@ fn entry(name: &str) -> Entry {
 fn wrong(case: &Case, result: &str) -> Option<String> {
     let (call, says) = result.split_once(": ").expect("an entry and its answer");
     let (name, number) = call.split_once(' ').unwrap_or((call, "0"));
-    let case = Case { budget: number.parse().expect("a number"), ..case.clone() };
+    let case = Case { number: number.parse().expect("a number"), ..case.clone() };
     let item = Item { entry: entry(name), case };
     let line = answers::line(&item).unwrap_or_else(|said| said);
-    let numbers = line.rsplit_once(' ').map_or("", |(numbers, _)| numbers);
+    let numbers = if item.entry.has_area() { line.rsplit_once(' ').map_or("", |(numbers, _)| numbers) } else { &line };
     (numbers != says).then(|| format!("{result}, and not {numbers}, by {:02x?} and {:02x?}", item.case.book, item.case.query))
 }
 

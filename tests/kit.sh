@@ -16,6 +16,26 @@ archive() {
     [ -f $built ] && [ -z "$(find crates crates.txt -newer $built -print -quit)" ] || rt staticlib engine >target/archive.log 2>&1 || { cat target/archive.log; return 1; }
 }
 
+# for_c: the compiler for C programs that link the archive, and what runs them. Where one is missing the script is skipped.
+for_c() {
+    compiler=cc
+    run=()
+    if [ "$(uname -m)" != x86_64 ]; then
+        compiler=x86_64-linux-gnu-gcc
+        run=("$tools/bin/qemu-x86_64" "$tools/lib/ld-linux-x86-64.so.2" --library-path "$tools/lib")
+        if ! command -v "$compiler" >/dev/null && [ "$(id -u)" = 0 ]; then
+            { apt-get update -qq && apt-get install -y -qq gcc-x86-64-linux-gnu; } >/dev/null 2>&1
+        fi
+        [ -x "$tools/bin/qemu-x86_64" ] || { echo "the kit has no emulator for this machine"; exit 77; }
+    fi
+    command -v "$compiler" >/dev/null || { echo "there is no $compiler, and it can't be installed"; exit 77; }
+}
+
+# c_program FILE: the program of a C file, linked with the archive in the folder $out, and run.
+c_program() {
+    "$compiler" -std=c11 -Wall -Wextra -Werror -O2 -Iinclude "$1" target/staticlib/libengine.a -o "$out/program" && "${run[@]}" "$out/program"
+}
+
 # needed NAME: how many crates a check of NAME proves, itself and what it is built on.
 needed() {
     awk -F': *' -v name="$1" '

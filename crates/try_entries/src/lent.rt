@@ -1,5 +1,6 @@
-// The entries that are lent an area. Their items have: budget (4 bytes), of which a single step has no use; the area's length (4 bytes), its first
-// byte and what each byte has more than the one before it, modulo 256 (1 byte each); the book's length (4 bytes), the book, and the query.
+// The entries that are lent an area, and the picks, which have no use for it. Their items have: a run's budget or an apply's clause number (4 bytes), of
+// which a single step and a pick have no use; the area's length (4 bytes), its first byte and what each byte has more than the one before it, modulo 256
+// (1 byte each); the book's length (4 bytes), the book, and the query.
 use crate::entries;
 use crate::number;
 
@@ -16,20 +17,24 @@ fn fill(area: &mut [u8], first: u8, more: u8) {
     }
 }
 
-fn call(entry: u8, budget: u32, book: &[u8], query: &[u8], area: &mut [u8]) -> bool {
+fn call(entry: u8, number: u32, book: &[u8], query: &[u8], area: &mut [u8]) -> bool {
     match entry {
         3 => entries::step(book, query, area),
-        4 => entries::run(book, query, budget, area),
-        _ => entries::run_for_c(book, query, budget, area),
+        4 => entries::run(book, query, number, area),
+        5 => entries::run_for_c(book, query, number, area),
+        6 => entries::pick(book, query),
+        7 => entries::apply(book, query, number, area),
+        8 => entries::pick_for_c(book, query),
+        _ => entries::apply_for_c(book, query, number, area),
     }
 }
 
 // Book and query one behind the other.
-fn apart(entry: u8, budget: u32, both: &[u8], book: usize, area: &mut [u8]) -> bool {
+fn apart(entry: u8, number: u32, both: &[u8], book: usize, area: &mut [u8]) -> bool {
     if both.len() < book {
         return false;
     }
-    call(entry, budget, &both[0..book], &both[book..], area)
+    call(entry, number, &both[0..book], &both[book..], area)
 }
 
 pub fn entry(entry: u8, item: &[u8], area: &mut [u8]) -> bool {

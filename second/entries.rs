@@ -1,0 +1,99 @@
+// The entries: what they refuse, what they answer and what they write.
+use crate::image;
+use crate::path::{Next, NoRoom, fit, fitting, follow, next, next_goal, none_fits};
+use crate::read;
+use crate::tree::{Clause, Goal};
+
+#[derive(Default, Clone, Copy, PartialEq, Debug)]
+pub struct Answer {
+    pub code: u8,
+    pub place: u32,
+    pub steps: u32,
+    pub span: u32,
+    pub bytes: u32,
+    pub clause: u32,
+}
+
+fn refused(refusal: read::Refusal) -> Answer {
+    Answer { code: refusal.code, place: refusal.place, ..Answer::default() }
+}
+
+fn only(code: u8) -> Answer {
+    Answer { code, ..Answer::default() }
+}
+
+fn inputs(book: &[u8], query: &[u8]) -> Result<(Vec<Clause>, Goal), Answer> {
+    let clauses = read::book(book).map_err(refused)?;
+    Ok((clauses, read::query(query).map_err(refused)?))
+}
+
+fn with_area(book: &[u8], query: &[u8], area: &[u8]) -> Result<(Vec<Clause>, Goal), Answer> {
+    if area.len() < 16387 { Err(only(1)) } else { inputs(book, query) }
+}
+
+fn write(goal: &Goal, area: &mut [u8]) -> u32 {
+    let image = image::of(goal);
+    area[..image.len()].copy_from_slice(&image);
+    image.len() as u32
+}
+
+/// One step taken by a clause.
+fn stepped(clause: u32, goal: &Goal, area: &mut [u8]) -> Answer {
+    Answer { code: 25, place: 0, steps: 1, span: 0, bytes: write(goal, area), clause }
+}
+
+pub fn run(book: &[u8], query: &[u8], budget: u32, area: &mut [u8]) -> Answer {
+    let (clauses, goal) = match with_area(book, query, area) {
+        Ok(good) => good,
+        Err(answer) => return answer,
+    };
+    let (code, span, state) = follow(&clauses, goal, budget);
+    Answer { code, place: 0, steps: state.t, span, bytes: write(&state.goal, area), clause: 0 }
+}
+
+pub fn step(book: &[u8], query: &[u8], area: &mut [u8]) -> Answer {
+    let (clauses, goal) = match with_area(book, query, area) {
+        Ok(good) => good,
+        Err(answer) => return answer,
+    };
+    if goal.is_empty() {
+        return only(20);
+    }
+    match next_goal(&clauses, &goal) {
+        Next::Stuck => only(none_fits(&clauses, &goal)),
+        Next::NoRoom => only(24),
+        Next::Goal(number, goal) => stepped(number as u32, &goal, area),
+    }
+}
+
+/// "The pick answers 20, 22, 26 or else 25 with the clause number; it doesn't look at the next goal's size and never writes; its steps are 0."
+pub fn pick(book: &[u8], query: &[u8]) -> Answer {
+    let (clauses, goal) = match inputs(book, query) {
+        Ok(good) => good,
+        Err(answer) => return answer,
+    };
+    if goal.is_empty() {
+        return only(20);
+    }
+    match fitting(&clauses, &goal) {
+        Some((number, _)) => Answer { clause: number as u32, ..only(25) },
+        None => only(none_fits(&clauses, &goal)),
+    }
+}
+
+/// "Refusals of the apply call, after the input codes: 20 empty goal, 32 no such clause, 33 head doesn't unify, 24; in this order."
+pub fn apply(book: &[u8], query: &[u8], clause: u32, area: &mut [u8]) -> Answer {
+    let (clauses, goal) = match with_area(book, query, area) {
+        Ok(good) => good,
+        Err(answer) => return answer,
+    };
+    if goal.is_empty() {
+        return only(20);
+    }
+    let Some(chosen) = clauses.get(clause as usize) else { return only(32) };
+    let Some(fit) = fit(chosen, &goal) else { return only(33) };
+    match next(chosen, &fit, &goal) {
+        Ok(goal) => stepped(clause, &goal, area),
+        Err(NoRoom) => only(24),
+    }
+}
