@@ -49,11 +49,11 @@ abbrev RowHolds : Row → Type 0
 RowHolds l = Holds (stepAnswer (l .book)) (stepArea (l .book)) (l .query) (l .result) (l .left)
 
 -- the image of the goal that is written, if one is
-abbrev image-of : Option Goal → Option Image
+abbrev pub image-of : Option Goal → Option Image
 image-of none = none
 image-of (some g) = some (encodeGoal g)
 
-leaves-image : (o : Option Goal) (area : Image) → Outcome.leaves o area ≡ leaves (image-of o) area
+pub leaves-image : (o : Option Goal) (area : Image) → Outcome.leaves o area ≡ leaves (image-of o) area
 leaves-image none area = refl
 leaves-image (some g) area = refl
 
