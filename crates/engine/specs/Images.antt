@@ -1,6 +1,7 @@
 -- What is taken, and what is answered then, from both ends: bytes that are not refused are the images of a good book and a good goal; and on the images of a good book
 -- and a good goal, in an area that is long enough, each entry answers what its definition says of them. Nothing is said of refusals there.
 use Prim.Native.Nat.{ℕ, _≤_}
+use native.Mathlib.Omega.{arith}
 use mathlib.Core.Path.{_≡_, ap, ap₂, _∙_}
 use mathlib.Core.Logic.{_↔_}
 use mathlib.Core.List.{List}
@@ -10,6 +11,7 @@ use Rattle.search.specs.Run.{Closed, run}
 use Rattle.search.specs.Told.{Told}
 use Rattle.search.specs.ToldLaws.{run-told}
 use Rattle.search.specs.Single.{Single, step}
+use Rattle.search.specs.Pick.{pick, apply-by}
 use Rattle.records.specs.declared.Check.{Check}
 use Rattle.records.specs.Format.{GoodBook, GoodGoal, encodeBook, encodeGoal, Bytes}
 use Rattle.records.specs.Decode.{bookOf, goalOf}
@@ -17,10 +19,11 @@ use Rattle.records.proofs.Meaning.{book-written, query-written}
 use Rattle.records.proofs.Decoding.{bookOf-good, goalOf-good, bookOf-image, goalOf-image}
 use Rattle.records.proofs.Premises.{book-clauses, goal-premises}
 use Rattle.engine.specs.declared.admit.Admitted.{Admitted}
-use Rattle.engine.specs.Outcome.{refusal, over, ended, runAnswer, runArea, stepped, leaves, stepAnswer, stepArea}
+use Rattle.engine.specs.Outcome.{refusal, over, ended, runAnswer, runArea, stepped, leaves, stepAnswer, stepArea, pickedAs, pickAnswer, applyAnswer, applyArea}
 use Rattle.engine.specs.Refusals.{query-decides, Good, not-refused}
 use Rattle.engine.specs.Stepping as Stepping
 use Rattle.engine.specs.Running as Running
+use Rattle.engine.specs.Calls.{pick-taken}
 
 -- nothing is refused just where the area is long enough and both checks answer 0
 pub taken-iff : (book query : List ℕ) (room : ℕ) → (refusal book query room .code ≡ 0) ↔ Good book query room
@@ -40,16 +43,32 @@ images book query book-bytes query-bytes room z =
     let q = goalOf-good query query-bytes (g .query-good) in
     record { good-book = b .0; book-image = b .1; good-goal = q .0; query-image = q .1 }
 
+module _ (P : Book) (good-book : GoodBook P) (q : Goal) (good-goal : GoodGoal q) where
+  room-enough : (room : ℕ) → 16387 ≤ room → refusal (encodeBook P) (encodeGoal q) room .code ≡ 0
+  room-enough room long =
+      taken-iff (encodeBook P) (encodeGoal q) room .1
+      (record { enough = long; book-good = ap (λ (c : Check). c .code) (book-written P good-book); query-good = ap (λ (c : Check). c .code) (query-written q good-goal) })
+
+  pub pick-of-good : pickAnswer (encodeBook P) (encodeGoal q) ≡ pickedAs (pick P q)
+  pick-of-good =
+      pick-taken (encodeBook P) (encodeGoal q) (room-enough 16387 (omega arith)) ∙ ap pickedAs (ap₂ pick (bookOf-image P good-book) (goalOf-image q good-goal))
+
 module _ (P : Book) (good-book : GoodBook P) (q : Goal) (good-goal : GoodGoal q) (area : List ℕ) (long : 16387 ≤ length area) where
   pub nothing-refused : refusal (encodeBook P) (encodeGoal q) (length area) .code ≡ 0
-  nothing-refused =
-      taken-iff (encodeBook P) (encodeGoal q) (length area) .1
-      (record { enough = long; book-good = ap (λ (c : Check). c .code) (book-written P good-book); query-good = ap (λ (c : Check). c .code) (query-written q good-goal) })
+  nothing-refused = room-enough P good-book q good-goal (length area) long
 
   pub step-of-good : (stepAnswer (encodeBook P) (encodeGoal q) area ≡ stepped (step P q)) × (stepArea (encodeBook P) (encodeGoal q) area ≡ leaves (step P q .written) area)
   step-of-good =
       let same : step (bookOf (encodeBook P)) (goalOf (encodeGoal q)) ≡ step P q = ap₂ step (bookOf-image P good-book) (goalOf-image q good-goal) in
       (Stepping.answer-taken (encodeBook P) (encodeGoal q) area nothing-refused ∙ ap stepped same, Stepping.area-taken (encodeBook P) (encodeGoal q) area nothing-refused ∙ ap (λ (s : Single). leaves (s .written) area) same)
+
+  pub apply-of-good : (k : ℕ) → (applyAnswer (encodeBook P) (encodeGoal q) k area ≡ stepped (apply-by P q k)) × (applyArea (encodeBook P) (encodeGoal q) k area ≡ leaves (apply-by P q k .written) area)
+  apply-of-good k =
+      let same : apply-by (bookOf (encodeBook P)) (goalOf (encodeGoal q)) k ≡ apply-by P q k = ap₂ (λ b g. apply-by b g k) (bookOf-image P good-book) (goalOf-image q good-goal) in
+      let it = apply-by (bookOf (encodeBook P)) (goalOf (encodeGoal q)) k in (
+        Stepping.single-taken (encodeBook P) (encodeGoal q) area it nothing-refused ∙ ap stepped same,
+        Stepping.single-written (encodeBook P) (encodeGoal q) area it nothing-refused ∙ ap (λ (s : Single). leaves (s .written) area) same,
+      )
 
   module _ (budget : ℕ) where
     pub run-of-good : (runAnswer (encodeBook P) (encodeGoal q) budget area ≡ ended (run P budget q)) × (runArea (encodeBook P) (encodeGoal q) budget area ≡ over (encodeGoal (run P budget q .goal)) area)
