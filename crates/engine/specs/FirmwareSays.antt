@@ -15,7 +15,7 @@ use Rattle.engine.specs.Firmware.{field, number, code-back, field-back, 
 use Rattle.engine.specs.Figures.{answer-code, run-narrow}
 use Rattle.engine.specs.Zeros.{run-refuses}
 use Rattle.engine.specs.CallNumbers.{pickNumber, applyField, applyNumber, apply-field-narrow}
-use Rattle.engine.specs.CallFigures.{pick-clause, pick-place, pick-small, pick-narrow, apply-narrow, apply-code, apply-refuses}
+use Rattle.engine.specs.CallFigures.{pick-clause, pick-place, pick-code, pick-narrow, apply-narrow, apply-code, apply-refuses}
 
 module _ (a : Answer) where
   field-place : a .code < 20 → field a ≡ a .place
@@ -56,7 +56,7 @@ module _ (book query : List ℕ) where
 
   pub pick-number-parts : (pickNumber picked % 256 ≡ picked .code) × (pickNumber picked / 256 % 2 ^ 24 ≡ picked .place) × (pickNumber picked / 2 ^ 32 ≡ picked .clause)
   pick-number-parts =
-      let c : picked .code < 256 = omega (arith, pick-small book query .0) in
+      let c : picked .code < 256 = omega (arith, pick-code book query) in
       let f = pick-narrow book query in
       (code-back (picked .code) (picked .place) (picked .clause) c f, field-back (picked .code) (picked .place) (picked .clause) c f, steps-back (picked .code) (picked .place) (picked .clause) c f)
 
