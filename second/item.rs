@@ -59,6 +59,9 @@ pub struct Item {
     pub case: Case,
 }
 
+/// The longest rest of an item that `try_entries` has room for.
+const LONGEST: usize = 98304;
+
 fn four(number: usize) -> [u8; 4] {
     (number as u32).to_be_bytes()
 }
@@ -68,6 +71,10 @@ fn number(bytes: &[u8]) -> usize {
 }
 
 impl Item {
+    pub fn has_room(&self) -> bool {
+        self.bytes().len() - 5 <= LONGEST
+    }
+
     pub fn bytes(&self) -> Vec<u8> {
         let Case { book, query, number, area } = &self.case;
         let rest = match self.entry {

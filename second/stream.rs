@@ -135,7 +135,7 @@ pub fn long(seed: u64, count: usize) -> Vec<Item> {
     items.extend(at_all_entries(list::cases(list::SIZES, &mut dice)));
     let lines = list::lines(list::RANDOM);
     while items.len() < count {
-        items.extend(random_items(&lines, &mut dice));
+        items.extend(random_items(&lines, &mut dice).into_iter().filter(Item::has_room));
     }
     items.truncate(count);
     items
