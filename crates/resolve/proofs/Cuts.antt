@@ -1,17 +1,22 @@
 -- One clause by itself, by the book's own shelf.
-use Prim.Native.Nat.{ℕ, zero, suc, _+_, _*_, _<_}
+use Prim.Native.Nat.{ℕ, zero, suc, _+_, _*_, _-_, _≤_, _<_}
 use native.Mathlib.Omega.{arith}
 use mathlib.Core.Path.{_≡_, refl, sym as inv, ap, _∙_, subst}
 use mathlib.Core.List.{List, [], _∷_}
 use lib.ListN.{length, getD, take, drop}
 use lib.Seq.{length-take-le, getD-take}
-use Rattle.search.specs.Next.{Book, Goal, no-clause, clause-at}
-use Rattle.search.specs.Step.{Step, solved, stuck, to, next, counted, next-from}
+use Rattle.terms.specs.Node.{Expr}
+use Rattle.search.specs.Next.{Book, Goal, Clauses, First, None-meets, Resolved, no-clause, clause-at}
+use Rattle.search.specs.Step.{stuck, to, next}
+use Rattle.search.specs.NextLaws.{next-iff, stuck-iff}
+use Rattle.search.specs.SingleLaws.{clauses-drop}
 use Rattle.words.specs.Columns.{every, every-length, every-at}
-use Rattle.words.specs.Held.{Placed, starts, heads, bodies, BookOn}
+use Rattle.words.specs.Held.{GoalIn, Placed, starts, heads, bodies, BookOn}
+use Rattle.words.specs.HeldLaws.{clauses-of}
+use Rattle.picking.specs.Picking.{Picked}
 use Rattle.resolve.specs.declared.Move.{Move}
 use Rattle.resolve.specs.declared.Move.the-variants.{Stuck, Unknown, Full, To}
-use Rattle.resolve.specs.Advancing.{Advanced, Alone}
+use Rattle.resolve.specs.Advancing.{Follows, Alone}
 
 -- A shelf cut behind the clause number k is of the book's first clauses, up to k.
 
@@ -62,22 +67,27 @@ only-one [] k l = absurd (omega arith)
 only-one (c ∷ P) zero l = refl
 only-one (c ∷ P) (suc k) l = only-one P k (omega arith)
 
-uncounted-stuck : (k : ℕ) (s : Step) → counted k s ≡ stuck → s ≡ stuck
-uncounted-stuck k solved e = cc
-uncounted-stuck k stuck e = refl
-uncounted-stuck k (to j h) e = cc
+-- that clause is tried, on the shelf that is cut
+module _ {book shelf : List ℕ} {P : Book} (b : BookOn book shelf P) (k : ℕ) (l : k < length P) {formulas : ℕ} {goal : List ℕ} (f : Expr) (g : Goal) (p : GoalIn goal formulas (f ∷ g)) (i : ℕ)
+    (picked : Picked f (take (suc k) P) k i) where
+  alone-clauses : Clauses (clause-at P k ∷ [])
+  alone-clauses = subst Clauses (only-one P k l) (clauses-drop k (take (suc k) P) (clauses-of (cut-shelf b k l .held)))
 
-uncounted-to : (k : ℕ) (s : Step) (i : ℕ) (h : Goal) → counted k s ≡ to i h → (j : ℕ) × (s ≡ to j h)
-uncounted-to k solved i h e = (0, cc)
-uncounted-to k stuck i h e = (0, cc)
-uncounted-to k (to j g) i h e = (j, cc)
+  pub alone-stuck : k < i → next (clause-at P k ∷ []) (f ∷ g) ≡ stuck
+  alone-stuck h =
+      stuck-iff (clause-at P k ∷ []) alone-clauses f g (p .formulas .0) .1 (subst (None-meets f) (only-one P k l) (picked .none (omega (arith, h, first-clauses b k l))))
 
-module _ (P : Book) (k : ℕ) (l : k < length P) (g : Goal) where
-  alone-is : next-from k (take (suc k) P) g ≡ counted k (next (clause-at P k ∷ []) g)
-  alone-is = ap (λ Q. counted k (next Q g)) (only-one P k l)
+  module _ (h : i ≤ k) where
+    pub cut-within : i < length (take (suc k) P)
+    cut-within = omega (arith, h, first-clauses b k l)
 
-  pub alone : (out : List ℕ) (r : Move) → Advanced (take (suc k) P) g k out r → Alone P k g out r
-  alone out Stuck a = uncounted-stuck k (next (clause-at P k ∷ []) g) (inv alone-is ∙ a .0)
-  alone out Unknown a = uncounted-stuck k (next (clause-at P k ∷ []) g) (inv alone-is ∙ a .0)
-  alone out Full a = let u = uncounted-to k (next (clause-at P k ∷ []) g) (a .0) (a .1) (inv alone-is ∙ a .2) in (u .0, a .1, u .1, a .3)
-  alone out (To i r n) a = let u = uncounted-to k (next (clause-at P k ∷ []) g) i (a .0) (inv alone-is ∙ a .1) in (u .0, a .0, u .1, a .2, a .3, a .4)
+    alone-to : (r : Goal) → Resolved f g (clause-at (take (suc k) P) i) r → next (clause-at P k ∷ []) (f ∷ g) ≡ to (i - k) r
+    alone-to r x =
+        next-iff (clause-at P k ∷ []) alone-clauses (f ∷ g) (p .formulas) (i - k) r .0
+        (clause-at (take (suc k) P) i, subst (λ Q. First f Q (i - k) (clause-at (take (suc k) P) i)) (only-one P k l) (picked .found cut-within), x)
+
+    pub alone : (out : List ℕ) (r : Move) → Follows (take (suc k) P) i f g out r → Alone P k (f ∷ g) out r
+    alone out (Stuck j a) x = absurd x
+    alone out Unknown x = absurd x
+    alone out Full x = (i - k, x .0, alone-to (x .0) (x .1), x .2)
+    alone out (To j r n) x = (i - k, x .1 .0, alone-to (x .1 .0) (x .1 .1), x .1 .2, x .1 .3, x .1 .4)

@@ -1,5 +1,4 @@
-use mathlib.Core.Path.{subst}
-use Rattle.picking.specs.Knowing.{Knowing}
+use Rattle.resolve.proofs.Lacks.{lacks-unknown, lacks-stuck}
 use borrow.Author.Needs.{needs}
 use Rattle.resolve.proofs.none_fits.Statement.{statement}
 use Rattle.resolve.proofs.none_fits.Tie as tie
@@ -9,5 +8,9 @@ none-fits-spec =
     tie.close
     (tie.spec
     (λ c κs. search needs)
-    (λ c. λ f P h b. subst (Knowing P f) (c .if1 .taken) (c .before .knows .ensures f P h b))
-    (λ c. λ f P h b. subst (Knowing P f) (c .if1 .left) (c .before .knows .ensures f P h b)))
+    (λ c. search needs)
+    (λ c. search needs)
+    (λ c. λ f P p b n. lacks-unknown _ f P p b (c .before .before .before .before .before .before .furthest .ensures f P p b) (c .if1 .taken) n)
+    (λ c. search needs)
+    (λ c. search needs)
+    (λ c. λ f P p b n. lacks-stuck _ f P p b (c .before .before .before .before .before .before .furthest .ensures f P p b) (c .if1 .left)))
