@@ -51,17 +51,17 @@ fn weigh(
     let e = entry(shelf, HEAD, i);
     let p = word(formula, 0);
     let q = word(book, s);
-    if q != p {
-        return best; // another predicate, or another arity
+    if q == p {
+        let k = failing(formula, &book[s..e], words, rows);
+        if best.argument < k {
+            return Figures {
+                clause: i,
+                argument: k,
+            };
+        }
+        return best;
     }
-    let k = failing(formula, &book[s..e], words, rows);
-    if best.argument < k {
-        return Figures {
-            clause: i,
-            argument: k,
-        };
-    }
-    best
+    best // another predicate, or another arity
 }
 
 // The clause that got furthest.
