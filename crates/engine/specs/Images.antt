@@ -19,7 +19,7 @@ use Rattle.records.proofs.Meaning.{book-written, query-written}
 use Rattle.records.proofs.Decoding.{bookOf-good, goalOf-good, bookOf-image, goalOf-image}
 use Rattle.records.proofs.Premises.{book-clauses, goal-premises}
 use Rattle.engine.specs.declared.admit.Admitted.{Admitted}
-use Rattle.engine.specs.Outcome.{refusal, over, ended, runAnswer, runArea, stepped, leaves, stepAnswer, stepArea, pickedAs, pickAnswer, applyAnswer, applyArea}
+use Rattle.engine.specs.Outcome.{refusal, over, ended, runAnswer, runArea, stepped, stepSaid, leaves, stepAnswer, stepArea, pickedAs, pickAnswer, applyAnswer, applyArea}
 use Rattle.engine.specs.Refusals.{query-decides, Good, not-refused}
 use Rattle.engine.specs.Stepping as Stepping
 use Rattle.engine.specs.Running as Running
@@ -57,10 +57,10 @@ module _ (P : Book) (good-book : GoodBook P) (q : Goal) (good-goal : GoodGoal q)
   pub nothing-refused : refusal (encodeBook P) (encodeGoal q) (length area) .code ≡ 0
   nothing-refused = room-enough P good-book q good-goal (length area) long
 
-  pub step-of-good : (stepAnswer (encodeBook P) (encodeGoal q) area ≡ stepped (step P q)) × (stepArea (encodeBook P) (encodeGoal q) area ≡ leaves (step P q .written) area)
+  pub step-of-good : (stepAnswer (encodeBook P) (encodeGoal q) area ≡ stepSaid P q (step P q)) × (stepArea (encodeBook P) (encodeGoal q) area ≡ leaves (step P q .written) area)
   step-of-good =
       let same : step (bookOf (encodeBook P)) (goalOf (encodeGoal q)) ≡ step P q = ap₂ step (bookOf-image P good-book) (goalOf-image q good-goal) in
-      (Stepping.answer-taken (encodeBook P) (encodeGoal q) area nothing-refused ∙ ap stepped same, Stepping.area-taken (encodeBook P) (encodeGoal q) area nothing-refused ∙ ap (λ (s : Single). leaves (s .written) area) same)
+      (Stepping.answer-taken (encodeBook P) (encodeGoal q) area nothing-refused ∙ ap₂ (λ b g. stepSaid b g (step b g)) (bookOf-image P good-book) (goalOf-image q good-goal), Stepping.area-taken (encodeBook P) (encodeGoal q) area nothing-refused ∙ ap (λ (s : Single). leaves (s .written) area) same)
 
   pub apply-of-good : (k : ℕ) → (applyAnswer (encodeBook P) (encodeGoal q) k area ≡ stepped (apply-by P q k)) × (applyArea (encodeBook P) (encodeGoal q) k area ≡ leaves (apply-by P q k .written) area)
   apply-of-good k =
@@ -71,15 +71,15 @@ module _ (P : Book) (good-book : GoodBook P) (q : Goal) (good-goal : GoodGoal q)
       )
 
   module _ (budget : ℕ) where
-    pub run-of-good : (runAnswer (encodeBook P) (encodeGoal q) budget area ≡ ended (run P budget q)) × (runArea (encodeBook P) (encodeGoal q) budget area ≡ over (encodeGoal (run P budget q .goal)) area)
+    pub run-of-good : (runAnswer (encodeBook P) (encodeGoal q) budget area ≡ ended P (run P budget q)) × (runArea (encodeBook P) (encodeGoal q) budget area ≡ over (encodeGoal (run P budget q .goal)) area)
     run-of-good =
         let same : run (bookOf (encodeBook P)) budget (goalOf (encodeGoal q)) ≡ run P budget q = ap₂ (λ b g. run b budget g) (bookOf-image P good-book) (goalOf-image q good-goal) in
-        (Running.answer-taken (encodeBook P) (encodeGoal q) budget area nothing-refused ∙ ap ended same, Running.area-taken (encodeBook P) (encodeGoal q) budget area nothing-refused ∙ ap (λ (c : Closed). over (encodeGoal (c .goal)) area) same)
+        (Running.answer-taken (encodeBook P) (encodeGoal q) budget area nothing-refused ∙ ap₂ (λ b g. ended b (run b budget g)) (bookOf-image P good-book) (goalOf-image q good-goal), Running.area-taken (encodeBook P) (encodeGoal q) budget area nothing-refused ∙ ap (λ (c : Closed). over (encodeGoal (c .goal)) area) same)
 
     -- the same by document 01's "Detection states", told as a relation
     pub run-as-told : (c : Closed) → Told P budget q c
-        → (runAnswer (encodeBook P) (encodeGoal q) budget area ≡ ended c) × (runArea (encodeBook P) (encodeGoal q) budget area ≡ over (encodeGoal (c .goal)) area)
+        → (runAnswer (encodeBook P) (encodeGoal q) budget area ≡ ended P c) × (runArea (encodeBook P) (encodeGoal q) budget area ≡ over (encodeGoal (c .goal)) area)
     run-as-told c told =
         let premises = goal-premises q good-goal in
         let same = run-told P (book-clauses P good-book) q (premises .0) (premises .1) budget c .1 told in
-        (run-of-good .0 ∙ ap ended same, run-of-good .1 ∙ ap (λ (c : Closed). over (encodeGoal (c .goal)) area) same)
+        (run-of-good .0 ∙ ap (ended P) same, run-of-good .1 ∙ ap (λ (c : Closed). over (encodeGoal (c .goal)) area) same)

@@ -15,6 +15,7 @@ use Rattle.search.specs.PathLaws.{path-next}
 use Rattle.search.specs.Single.{Single, not-taken, Steps, solved-20, stuck-22, full-24, unknown-26}
 use Rattle.search.specs.SingleLaws.{step-iff}
 use Rattle.search.specs.TestLaws.{big-iff}
+use Rattle.search.specs.Furthest.{Figures}
 use Rattle.search.specs.Resolution.{Derived}
 use Rattle.search.specs.ResolutionLaws.{derived-iff}
 use Rattle.records.specs.declared.Check.{Check}
@@ -26,35 +27,35 @@ use Rattle.records.proofs.Meaning.{query-written}
 use Rattle.records.proofs.Premises.{book-clauses, goal-premises}
 use Rattle.areas.specs.GoodGoals.{book-atomic, goal-atomics}
 use Rattle.engine.specs.declared.Stepped.{Stepped}
-use Rattle.engine.specs.Outcome.{stepped, leaves, stepAnswer, stepArea, runAnswer, runArea}
+use Rattle.engine.specs.Outcome.{stepped, stepSaid, leaves, stepAnswer, stepArea, runAnswer, runArea}
 use Rattle.engine.specs.Images.{step-of-good}
 use Rattle.engine.specs.StepSays.{StepSays, solved, stuck, unknown, full, went, step-taken, step-says}
 use Rattle.engine.specs.RunSays as RunSays
-use Rattle.engine.specs.RunSays.{Means, run-means}
+use Rattle.engine.specs.RunSays.{Means, run-means, run-figures}
 use Rattle.engine.specs.StepsTo.{StepsTo, none-yet, one-more, reached, gets-there, run-gets-there}
 
 -- with code 25 the next goal's image stands at the front
 went-by : {P : Book} {q : Goal} {area after : List ℕ} {r : Stepped} → StepSays P q area r after → r .code ≡ 25 → (h : Goal) × Next P q (r .clause) h × (take (r .bytes) after ≡ encodeGoal h)
 went-by (solved e) c = absurd (omega arith)
-went-by (stuck f g e n k) c = absurd (omega arith)
+went-by (stuck f g e n k w x) c = absurd (omega arith)
 went-by (unknown f g e n k) c = absurd (omega arith)
 went-by (full k h n b) c = absurd (omega arith)
 went-by {area = area} (went k h n l m) c = (h, n, take-append-seam (encodeGoal h) (drop (length (encodeGoal h)) area))
 
 -- with code 23 the budget is used up
-spent-all : {P : Book} {budget steps : ℕ} {g : Goal} {c n : ℕ} → Means P budget steps g c n → c ≡ 23 → steps ≡ budget
+spent-all : {P : Book} {budget steps : ℕ} {g : Goal} {c n : ℕ} {w : Figures} → Means P budget steps g c n w → c ≡ 23 → steps ≡ budget
 spent-all (RunSays.solved e) k = absurd (omega arith)
 spent-all (RunSays.loop f g e y) k = absurd (omega arith)
-spent-all (RunSays.stuck f g e n i) k = absurd (omega arith)
+spent-all (RunSays.stuck f g e n i w x) k = absurd (omega arith)
 spent-all (RunSays.unknown f g e n i) k = absurd (omega arith)
 spent-all (RunSays.spent j h n e) k = e
 spent-all (RunSays.full j h n l b) k = absurd (omega arith)
 
 -- with codes 20, 22 and 24 no step can be taken
-no-step : {P : Book} {budget steps : ℕ} {g : Goal} {c n : ℕ} → Means P budget steps g c n → (c ≡ 21 → ⊥) → (c ≡ 23 → ⊥) → Steps 0 P g (not-taken c)
+no-step : {P : Book} {budget steps : ℕ} {g : Goal} {c n : ℕ} {w : Figures} → Means P budget steps g c n w → (c ≡ 21 → ⊥) → (c ≡ 23 → ⊥) → Steps 0 P g (not-taken c)
 no-step (RunSays.solved e) l s = solved-20 e
 no-step (RunSays.loop f g e y) l s = absurd (l refl)
-no-step (RunSays.stuck f g e n k) l s = stuck-22 f g e n k
+no-step (RunSays.stuck f g e n k w x) l s = stuck-22 f g e n k
 no-step (RunSays.unknown f g e n k) l s = unknown-26 f g e n k
 no-step (RunSays.spent k h n e) l s = absurd (s refl)
 no-step (RunSays.full k h n e b) l s = full-24 k h (record { later = k; number = omega arith; next = n }) (big-iff h .1 b)
@@ -142,7 +143,7 @@ module _ (book query : List ℕ) (book-bytes : Bytes book) (query-bytes : Bytes 
       -- where it closes with 20, 22, 24 or 26, a single step from what it leaves says the same, and writes nothing
       pub run-ends : (budget : ℕ) → let r = runAnswer book query budget area in 20 ≤ r .code → (r .code ≡ 21 → ⊥) → (r .code ≡ 23 → ⊥) → (lent : List ℕ) → 16387 ≤ length lent
           → let image = take (r .bytes) (runArea book query budget area) in
-          (stepAnswer book image lent ≡ record { code = r .code; place = 0; steps = 0; span = 0; bytes = 0; clause = 0 }) × (stepArea book image lent ≡ lent)
+          (stepAnswer book image lent ≡ record { code = r .code; place = 0; steps = 0; span = 0; bytes = 0; clause = 0; furthest = r .furthest; argument = r .argument }) × (stepArea book image lent ≡ lent)
       run-ends budget high other spent lent enough =
           let says = run-means book query budget area book-bytes query-bytes high in
           let left = run-leaves budget in
@@ -151,6 +152,6 @@ module _ (book query : List ℕ) (book-bytes : Bytes book) (query-bytes : Bytes 
           let stays = step-iff 0 P (book-clauses P (good-P .0)) g (goal-premises g (left .2 .good) .0) (not-taken (runAnswer book query budget area .code)) .1
           (subst (λ h. Steps 0 P h (not-taken (runAnswer book query budget area .code))) same (no-step (says .means) other spent)) in
           let o = step-of-good P (good-P .0) g (left .2 .good) lent enough in (
-            ap₂ (λ b i. stepAnswer b i lent) (inv (good-P .1)) (inv (left .2 .is)) ∙ o .0 ∙ ap stepped stays,
+            ap₂ (λ b i. stepAnswer b i lent) (inv (good-P .1)) (inv (left .2 .is)) ∙ o .0 ∙ ap (stepSaid P g) stays ∙ ap (λ w. stepped w (not-taken (runAnswer book query budget area .code))) (run-figures book query budget area book-bytes query-bytes high g (left .1)),
             ap₂ (λ b i. stepArea b i lent) (inv (good-P .1)) (inv (left .2 .is)) ∙ o .1 ∙ ap (λ (s : Single). leaves (s .written) lent) stays,
           )

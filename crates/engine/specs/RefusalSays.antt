@@ -58,10 +58,10 @@ module _ (book query : List ℕ) (book-bytes : Bytes book) (query-bytes : Bytes 
     not-taken : refusal book query (length area) .code ≡ 0 → ⊥
     not-taken z = let r = refuses (length area) s in r .0 (inv (ap (λ (r : Admitted). r .code) (r .1)) ∙ z)
 
-    pub run-refused : (budget : ℕ) → (runAnswer book query budget area ≡ record { code = code; place = place; steps = 0; span = 0; bytes = 0 }) × (runArea book query budget area ≡ area)
+    pub run-refused : (budget : ℕ) → (runAnswer book query budget area ≡ record { code = code; place = place; steps = 0; span = 0; bytes = 0; furthest = 0; argument = 0 }) × (runArea book query budget area ≡ area)
     run-refused budget = (Running.answer-refused book query budget area not-taken ∙ ap refused (refuses (length area) s .1), Running.area-refused book query budget area not-taken)
 
-    pub step-refused : (stepAnswer book query area ≡ record { code = code; place = place; steps = 0; span = 0; bytes = 0; clause = 0 }) × (stepArea book query area ≡ area)
+    pub step-refused : (stepAnswer book query area ≡ record { code = code; place = place; steps = 0; span = 0; bytes = 0; clause = 0; furthest = 0; argument = 0 }) × (stepArea book query area ≡ area)
     step-refused = (Stepping.answer-refused book query area not-taken ∙ ap stepRefused (refuses (length area) s .1), Stepping.area-refused book query area not-taken)
 
   module _ (area : List ℕ) where

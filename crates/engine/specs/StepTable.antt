@@ -1,4 +1,4 @@
--- Single steps from document 01's cases: bytes in, the six numbers and the area out, as one claim about what the contract of the step says. P8 takes two steps, by the
+-- Single steps from document 01's cases: bytes in, the eight numbers and the area out, as one claim about what the contract of the step says. P8 takes two steps, by the
 -- clause number 0 and by the clause number 1; a step is refused where a run is.
 use Prim.Native.Nat.{ℕ}
 use mathlib.Core.Path.{_≡_, refl, sym as inv, ap, _∙_}
@@ -8,6 +8,7 @@ use lib.ListN.{length}
 use Rattle.search.specs.Next.{Goal}
 use Rattle.search.specs.Room.{fits}
 use Rattle.search.specs.Known.{alike?, known?, stuck-code}
+use Rattle.search.specs.Furthest.{furthest, figures}
 use Rattle.search.specs.Single.{step}
 use Rattle.records.specs.Reading.{allowed, bodyLength, numberAt, recordAt, inRange, inSize, inOrder, nextUnused, after, judgeRecord, judge, whole, finish, walk, verdict, bookVerdict, queryVerdict}
 use Rattle.records.specs.Cases.{Case, cases}
@@ -16,10 +17,10 @@ use Rattle.records.specs.Decode.{bookOf, goalOf}
 use Rattle.engine.specs.declared.Stepped.{Stepped}
 use Rattle.engine.specs.declared.admit.Admitted.{Admitted}
 use Rattle.engine.specs.Outcome as Outcome
-use Rattle.engine.specs.Outcome.{refusal, stepRefused, stepped, stepAnswer, stepArea}
+use Rattle.engine.specs.Outcome.{refusal, stepRefused, stepSaid, stepAnswer, stepArea}
 use Rattle.engine.specs.Refusals.{query-decides}
 use Rattle.engine.specs.Stepping.{answer-refused, area-refused, answer-taken, area-taken}
-use Rattle.engine.specs.Traces.{Image, p5-book, p5-query, p5-rest, p6-query, p8-book, p8-query, p8-rest, p9-book, empty-goal, leaves, Holds, All, all-map, Faulty, cases-faulty}
+use Rattle.engine.specs.Traces.{Image, p5-book, p5-query, p5-rest, p6-query, p7-book, p7-query, p8-book, p8-query, p8-rest, p9-book, empty-goal, leaves, Holds, All, all-map, Faulty, cases-faulty}
 
 record Row : Type 0 where
   book : Image
@@ -28,7 +29,11 @@ record Row : Type 0 where
   left : Option Image
 
 abbrev result : ℕ → ℕ → ℕ → ℕ → ℕ → ℕ → Stepped
-result code place steps span bytes clause = record { code = code; place = place; steps = steps; span = span; bytes = bytes; clause = clause }
+result code place steps span bytes clause = record { code = code; place = place; steps = steps; span = span; bytes = bytes; clause = clause; furthest = 0; argument = 0 }
+
+-- with 22: the clause that got furthest, and the argument at which its head fails (document 02, C-19)
+abbrev stuck-at : ℕ → ℕ → Stepped
+stuck-at clause argument = record { code = 22; place = 0; steps = 0; span = 0; bytes = 0; clause = 0; furthest = clause; argument = argument }
 
 abbrev taken : Image → Image → Stepped → Option Image → Row
 taken b q r g = record { book = b; query = some q; result = r; left = g }
@@ -39,7 +44,8 @@ turned-away c = record { book = c .book; query = none; result = result (c .code)
 abbrev table : List Row
 table =
     taken p5-book p5-query (result 25 0 1 0 10 0) (some p5-rest)
-    ∷ taken p5-book p6-query (result 22 0 0 0 0 0) none
+    ∷ taken p5-book p6-query (stuck-at 0 1) none
+    ∷ taken p7-book p7-query (stuck-at 0 2) none
     ∷ taken p8-book p8-query (result 25 0 1 0 10 0) (some p8-rest)
     ∷ taken p8-book p8-rest (result 25 0 1 0 3 1) (some empty-goal)
     ∷ taken p9-book empty-goal (result 20 0 0 0 0 0) none
@@ -58,10 +64,10 @@ leaves-image none area = refl
 leaves-image (some g) area = refl
 
 -- a line from what is computed of it: the two checks, the answer, the image
-holds-taken : (b q : Image) (r : Stepped) (g : Option Image) → bookVerdict b .code ≡ 0 → queryVerdict q .code ≡ 0 → stepped (step (bookOf b) (goalOf q)) ≡ r → image-of (step (bookOf b) (goalOf q) .written) ≡ g → RowHolds (taken b q r g)
+holds-taken : (b q : Image) (r : Stepped) (g : Option Image) → bookVerdict b .code ≡ 0 → queryVerdict q .code ≡ 0 → stepSaid (bookOf b) (goalOf q) (step (bookOf b) (goalOf q)) ≡ r → image-of (step (bookOf b) (goalOf q) .written) ≡ g → RowHolds (taken b q r g)
 holds-taken b q r g bz qz answer-is image-is query e area long =
     let z : refusal b query (length area) .code ≡ 0 = ap (λ (a : Admitted). a .code) (query-decides b query (length area) long bz) ∙ ap (λ s. queryVerdict s .code) e ∙ qz in (
-      answer-taken b query area z ∙ ap (λ s. stepped (step (bookOf b) (goalOf s))) e ∙ answer-is,
+      answer-taken b query area z ∙ ap (λ s. stepSaid (bookOf b) (goalOf s) (step (bookOf b) (goalOf s))) e ∙ answer-is,
       area-taken b query area z ∙ ap (λ s. Outcome.leaves (step (bookOf b) (goalOf s) .written) area) e ∙ leaves-image (step (bookOf b) (goalOf q) .written) area ∙ ap (λ i. leaves i area) image-is,
     )
 
@@ -74,11 +80,11 @@ holds-refused c f query u area long =
 
 -- The table holds, all of its lines.
 pub step-table-holds : All RowHolds table
-unfolding allowed bodyLength numberAt recordAt inRange inSize inOrder nextUnused after judgeRecord judge whole finish walk verdict bookOf goalOf fits stuck-code known? alike?
+unfolding allowed bodyLength numberAt recordAt inRange inSize inOrder nextUnused after judgeRecord judge whole finish walk verdict bookOf goalOf fits stuck-code known? alike? figures furthest
 step-table-holds = (
   holds-taken _ _ _ _ refl refl refl refl,
   (
     holds-taken _ _ _ _ refl refl refl refl,
-    (holds-taken _ _ _ _ refl refl refl refl, (holds-taken _ _ _ _ refl refl refl refl, (holds-taken _ _ _ _ refl refl refl refl, all-map Faulty RowHolds turned-away holds-refused cases cases-faulty))),
+    (holds-taken _ _ _ _ refl refl refl refl, (holds-taken _ _ _ _ refl refl refl refl, (holds-taken _ _ _ _ refl refl refl refl, (holds-taken _ _ _ _ refl refl refl refl, all-map Faulty RowHolds turned-away holds-refused cases cases-faulty)))),
   ),
 )

@@ -20,7 +20,7 @@ use Rattle.records.specs.Format.{GoodBook, GoodGoal, encodeBook, encodeGoal}
 use Rattle.areas.specs.GoodGoals.{path-good}
 use Rattle.engine.specs.declared.Answer.{Answer}
 use Rattle.engine.specs.declared.Stepped.{Stepped}
-use Rattle.engine.specs.Outcome.{over, stepped, bytesOf, leaves, stepAnswer, stepArea, runAnswer, runArea}
+use Rattle.engine.specs.Outcome.{over, stepSaid, bytesOf, leaves, stepAnswer, stepArea, runAnswer, runArea}
 use Rattle.engine.specs.Refusals.{not-refused}
 use Rattle.engine.specs.Images.{step-of-good, run-of-good}
 use Rattle.engine.specs.StepSays.{step-taken}
@@ -56,7 +56,7 @@ went P g c = go (next P g) refl
 
 -- The step from a good goal, by a good book, fed with images.
 module _ (P : Book) (good-book : GoodBook P) (g : Goal) (good-goal : GoodGoal g) (area : List ℕ) (c : stepAnswer (encodeBook P) (encodeGoal g) area .code ≡ 25) where
-  says : (stepAnswer (encodeBook P) (encodeGoal g) area ≡ stepped (step P g)) × (stepArea (encodeBook P) (encodeGoal g) area ≡ leaves (step P g .written) area)
+  says : (stepAnswer (encodeBook P) (encodeGoal g) area ≡ stepSaid P g (step P g)) × (stepArea (encodeBook P) (encodeGoal g) area ≡ leaves (step P g .written) area)
   says = step-of-good P good-book g good-goal area (not-refused (encodeBook P) (encodeGoal g) (length area) (step-taken (encodeBook P) (encodeGoal g) area (omega (arith, c))) .enough)
 
   by : Went P g

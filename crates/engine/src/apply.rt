@@ -35,6 +35,8 @@ fn refused(a: Admitted) -> Stepped
         span: 0,
         bytes: 0,
         clause: 0,
+        furthest: 0,
+        argument: 0,
     }
 }
 
@@ -48,6 +50,8 @@ fn no_step(code: u8) -> Stepped
         span: 0,
         bytes: 0,
         clause: 0,
+        furthest: 0,
+        argument: 0,
     }
 }
 
@@ -62,6 +66,8 @@ fn one_step(clause: usize, bytes: usize) -> Stepped
         span: 0,
         bytes: bytes as u32,
         clause: clause as u32,
+        furthest: 0,
+        argument: 0,
     }
 }
 
@@ -96,7 +102,7 @@ fn from_formula(
         rows,
         out,
     ) {
-        Move::Stuck => no_step(33),
+        Move::Stuck(_, _) => no_step(33),
         Move::Unknown => no_step(33),
         Move::Full => no_step(24),
         Move::To(_, n, count) => {

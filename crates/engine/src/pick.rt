@@ -14,11 +14,12 @@ ghost use lib.ListN.{length};
 ghost use Rattle.terms.specs.Node.{Expr};
 ghost use Rattle.search.specs.Next.{Book, Goal};
 ghost use Rattle.search.specs.Pick as Pick;
+ghost use Rattle.search.specs.Furthest.{no-figures};
 ghost use Rattle.words.specs.Held.{GoalIn, BookOn};
 ghost use Rattle.records.specs.Decode.{bookOf, goalOf};
 ghost use Rattle.areas.specs.Rooms.{Rooms};
 ghost use Rattle.picking.specs.Picking.{Bench};
-ghost use Rattle.engine.specs.Outcome.{pickRefused, pickedAs, pickAnswer};
+ghost use Rattle.engine.specs.Outcome.{pickRefused, pickedAs, pickSaid, pickAnswer};
 ghost use Rattle.engine.specs.Refusals.{Good};
 
 fn refused(a: Admitted) -> Picked
@@ -29,18 +30,37 @@ fn refused(a: Admitted) -> Picked
         place: a.place,
         steps: 0,
         clause: 0,
+        furthest: 0,
+        argument: 0,
     }
 }
 
 fn picked(code: u8, clause: usize) -> Picked
     requires { ⌜ clause ≤ 512 ⌝ }
-    ensures { λ r. ⌜ r ≡ pickedAs (record { code = code; clause = clause }) ⌝ }
+    ensures { λ r. ⌜ r ≡ pickedAs no-figures (record { code = code; clause = clause }) ⌝ }
 {
     Picked {
         code,
         place: 0,
         steps: 0,
         clause: clause as u32,
+        furthest: 0,
+        argument: 0,
+    }
+}
+
+// None fits: "the clause that got furthest" and the argument at which its head fails.
+fn stuck(furthest: usize, argument: usize) -> Picked
+    requires { ⌜ (furthest ≤ 512) × (argument ≤ 4096) ⌝ }
+    ensures { λ r. ⌜ r ≡ pickedAs (record { clause = furthest; argument = argument }) (record { code = 22; clause = 0 }) ⌝ }
+{
+    Picked {
+        code: 22,
+        place: 0,
+        steps: 0,
+        clause: 0,
+        furthest: furthest as u32,
+        argument: argument as u32,
     }
 }
 
@@ -53,11 +73,11 @@ fn from_formula(
     rows: &mut [u16],
 ) -> Picked
     requires { ⌜ Bench (now words) (now rows) × ((P : Book) × BookOn (now book) (now shelf) P) × ((f : Expr) × (g : Goal) × (n : ℕ) × GoalIn (now goal) n (f ∷ g)) ⌝ }
-    ensures { λ r. ⌜ ((P : Book) (f : Expr) (g : Goal) (n : ℕ) → BookOn (now (book .entry)) (now (shelf .entry)) P → GoalIn (now (goal .entry)) n (f ∷ g) → r ≡ pickedAs (Pick.pick P (f ∷ g))) ⌝ }
+    ensures { λ r. ⌜ ((P : Book) (f : Expr) (g : Goal) (n : ℕ) → BookOn (now (book .entry)) (now (shelf .entry)) P → GoalIn (now (goal .entry)) n (f ∷ g) → r ≡ pickSaid P (f ∷ g) (Pick.pick P (f ∷ g))) ⌝ }
 {
-    match choose(book, shelf, goal, 0, words, rows) {
+    match choose(book, shelf, goal, words, rows) {
         Choice::Clause(clause) => picked(25, clause),
-        Choice::Stuck => picked(22, 0),
+        Choice::Stuck(furthest, argument) => stuck(furthest, argument),
         Choice::Unknown => picked(26, 0),
     }
 }
@@ -65,7 +85,7 @@ fn from_formula(
 // The pick for a goal, with storage for the trial of its first formula.
 fn from_goal(book: &[u32], shelf: &[u16], goal: &[u32], formulas: usize) -> Picked
     requires { ⌜ ((P : Book) × BookOn (now book) (now shelf) P) × ((g : Goal) × GoalIn (now goal) formulas g) ⌝ }
-    ensures { λ r. ⌜ ((P : Book) (g : Goal) → BookOn (now (book .entry)) (now (shelf .entry)) P → GoalIn (now (goal .entry)) formulas g → r ≡ pickedAs (Pick.pick P g)) ⌝ }
+    ensures { λ r. ⌜ ((P : Book) (g : Goal) → BookOn (now (book .entry)) (now (shelf .entry)) P → GoalIn (now (goal .entry)) formulas g → r ≡ pickSaid P g (Pick.pick P g)) ⌝ }
 {
     if formulas == 0 {
         return picked(20, 0);
@@ -85,7 +105,7 @@ fn from_bytes(
 ) -> Picked
     requires { ⌜ Good (now book) (now query) 16387 ⌝ }
     requires { ⌜ Rooms (now words) (now shelf) × (4096 ≤ length (now goal)) ⌝ }
-    ensures { λ r. ⌜ r ≡ pickedAs (Pick.pick (bookOf (now (book .entry))) (goalOf (now (query .entry)))) ⌝ }
+    ensures { λ r. ⌜ r ≡ pickSaid (bookOf (now (book .entry))) (goalOf (now (query .entry))) (Pick.pick (bookOf (now (book .entry))) (goalOf (now (query .entry)))) ⌝ }
 {
     let clauses = open_book(book, words, shelf);
     let opened = open_query(query, goal);
@@ -97,7 +117,7 @@ fn from_bytes(
 // The same with storage of its own.
 fn from_good(book: &[u8], query: &[u8]) -> Picked
     requires { ⌜ Good (now book) (now query) 16387 ⌝ }
-    ensures { λ r. ⌜ r ≡ pickedAs (Pick.pick (bookOf (now (book .entry))) (goalOf (now (query .entry)))) ⌝ }
+    ensures { λ r. ⌜ r ≡ pickSaid (bookOf (now (book .entry))) (goalOf (now (query .entry))) (Pick.pick (bookOf (now (book .entry))) (goalOf (now (query .entry)))) ⌝ }
 {
     let mut words = [0u32; 10922];
     let mut shelf = [0u16; 1539];

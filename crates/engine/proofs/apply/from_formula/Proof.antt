@@ -24,7 +24,7 @@ from-formula-spec =
     (λ c. search needs)
     (λ c. search needs)
     (λ c. search needs)
-    (λ c. went-apart (c .before .before .before .before .before .before .before .before .before .before .before .before .before .before .before .before .before .before .before .before .pre .1 .1) _ _ (c .before .before .before .before .before .before .before .before .before .apply-number .ensures) (c .before .enum-told .given .1) _ (c .no-step .ensures))
+    (λ c. went-apart (c .before .before .before .before .before .before .before .before .before .before .before .before .before .before .before .before .before .before .before .before .pre .1 .1) _ _ (c .before .before .before .before .before .before .before .before .before .apply-number .ensures) _ _ (c .before .enum-told .given .1) _ (c .no-step .ensures))
     (λ c. search needs)
     (λ c. search needs)
     (λ c. search needs)
