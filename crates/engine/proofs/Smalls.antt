@@ -2,13 +2,11 @@
 use Prim.Native.Nat.{ℕ, _≤_, _<_}
 use native.Mathlib.Omega.{arith}
 use native.Mathlib.Decide.{decLt, ℕ-discrete}
-use native.Mathlib.Nat.{add-zero}
 use mathlib.Core.Path.{_≡_, refl, sym as inv, ap, _∙_, subst}
 use mathlib.Core.List.{List, [], _∷_}
 use lib.ListN.{length}
-use Rattle.terms.specs.Node.{Symbol, arity, sym, Expr}
-use Rattle.terms.specs.Row.{Row, row-sym}
-use Rattle.terms.specs.RowLaws.{row-long}
+use Rattle.terms.specs.Node.{Expr}
+use Rattle.terms.specs.Row.{Row}
 use Rattle.search.specs.Next.{Clause, Book, Goal, clause-at}
 use Rattle.search.specs.Fail.{Fails-at, failing}
 use Rattle.search.specs.FailLaws.{Failing, other, meets, fails, failing-says}
@@ -16,10 +14,7 @@ use Rattle.search.specs.Furthest.{Figures, furthest, stuck-figures, figures, fi
 use Rattle.search.specs.FurthestLaws.{Best, furthest-best}
 use Rattle.words.specs.Held.{GoalIn, BookOn}
 use Rattle.words.specs.HeldLaws.{first-length}
-
--- there are as many arguments as the arity says
-arguments-fit : (s : Symbol) (a : Expr) → Row 1 (sym s ∷ a) → arity s ≤ length a
-arguments-fit s a (row-sym r) = row-long (rw add-zero at r)
+use Rattle.engine.specs.Stuck.{arguments-fit}
 
 number-small : {f : Expr} {c : Clause} {k : ℕ} → Row 1 f → Failing f c k → k ≤ length f
 number-small r (other s t a b p q n) = omega arith

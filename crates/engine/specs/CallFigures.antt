@@ -13,16 +13,21 @@ use Rattle.search.specs.Next.{Book, Goal, clause-at}
 use Rattle.search.specs.Room.{fits}
 use Rattle.search.specs.Step.{Step, solved, stuck, to, next}
 use Rattle.search.specs.Known.{stuck-code}
+use Rattle.search.specs.Furthest.{no-figures}
 use Rattle.search.specs.Single.{Single, not-taken, taken, if-fits}
 use Rattle.search.specs.Pick.{picked, applied, apply-by}
+use Rattle.records.specs.Format.{Bytes}
 use Rattle.records.specs.Decode.{bookOf, goalOf}
+use Rattle.records.proofs.Premises.{goal-premises}
 use Rattle.engine.specs.declared.Picked.{Picked}
 use Rattle.engine.specs.declared.Stepped.{Stepped}
 use Rattle.engine.specs.Outcome.{refusal, stepped, leaves, pickAnswer, applyAnswer, applyArea}
 use Rattle.engine.specs.Stepping.{single-refused, single-kept, single-taken, single-written}
 use Rattle.engine.specs.Calls.{pick-refused, pick-taken}
-use Rattle.engine.specs.CallNumbers.{ApplyNarrow}
+use Rattle.engine.specs.CallNumbers.{PickNarrow, ApplyNarrow}
 use Rattle.engine.specs.Figures.{refusal-low, image-short}
+use Rattle.engine.specs.Images.{images}
+use Rattle.engine.specs.Why.{why-small, pick-good, pick-why, pick-no-why}
 use Rattle.engine.specs.Listed.{listed-up-to, pick-code-between, apply-code-between, pick-listed, apply-listed}
 
 -- The pick.
@@ -58,12 +63,24 @@ module _ (book query : List ℕ) where
   pub pick-code : pickAnswered .code ≤ 26
   pick-code = listed-up-to 26 (omega arith) (λ c o. pick-code-between o .1) (pick-listed book query)
 
-  -- there is room for the place in 24 bits
-  pub pick-narrow : pickAnswered .place < 2 ^ 24
-  pick-narrow = elim (ℕ-discrete (refusal book query 16387 .code) 0) [
+  place-narrow : pickAnswered .place < 2 ^ 24
+  place-narrow = elim (ℕ-discrete (refusal book query 16387 .code) 0) [
     | yes z ↦ rw (pick-taken book query z) (omega arith)
     | no n ↦ rw (pick-refused book query n) (omega (arith, refusal-low book query 16387 .place))
   ]
+
+  -- there is room for the place and for both figures
+  pub pick-narrow : Bytes book → Bytes query → PickNarrow pickAnswered
+  pick-narrow book-bytes query-bytes = record { place = place-narrow; furthest = small .0; argument = small .1 }
+    where
+      small : (pickAnswered .furthest < 2 ^ 16) × (pickAnswered .argument < 2 ^ 16)
+      small = elim (ℕ-discrete (pickAnswered .code) 22) [
+        | yes c ↦
+            let good = images book query book-bytes query-bytes 16387 (pick-good book query c) in
+            let s = why-small (goal-premises (goalOf query) (good .good-goal) .0) (pick-why book query book-bytes query-bytes c) in
+            (omega (arith, s .0, good .good-book .few), omega (arith, s .1, good .good-goal .fitting .size))
+        | no n ↦ let z = pick-no-why book query n in (omega (arith, z .0), omega (arith, z .1))
+      ]
 
 -- The apply call.
 
@@ -92,7 +109,7 @@ record ApplyFigures (k : ℕ) (before : List ℕ) (a : Stepped) (after : List �
   with-25 : a .code ≡ 25 → (a .steps ≡ 1) × (a .clause ≡ k)
   else : (a .code ≡ 25 → ⊥) → (a .steps ≡ 0) × (a .bytes ≡ 0) × (a .clause ≡ 0) × (after ≡ before)
 
-single-figures : (k : ℕ) (area : List ℕ) {s : Single} → TakenOrNot k s → ApplyFigures k area (stepped s) (leaves (s .written) area)
+single-figures : (k : ℕ) (area : List ℕ) {s : Single} → TakenOrNot k s → ApplyFigures k area (stepped no-figures s) (leaves (s .written) area)
 single-figures k area (not c n) =
     record { narrow = record { place = omega arith; bytes = omega arith }; span = refl; place = λ l. refl; with-25 = λ e. absurd (n e); else = λ x. (refl, refl, refl, refl) }
 single-figures k area (by h e) =
@@ -107,10 +124,10 @@ module _ (book query : List ℕ) (k : ℕ) (area : List ℕ) where
 
   apply-figures : ApplyFigures k area applyAnswered (applyArea book query k area)
   apply-figures = elim (ℕ-discrete (refusal book query (length area) .code) 0) [
-    | yes z ↦ rw (single-taken book query area it z, single-written book query area it z) (single-figures k area (taken-or-not (bookOf book) (goalOf query) k))
+    | yes z ↦ rw (single-taken book query area z (stepped no-figures it), single-written book query area z it) (single-figures k area (taken-or-not (bookOf book) (goalOf query) k))
     | no n ↦
         let low = refusal-low book query (length area) in
-        rw (single-refused book query area it n, single-kept book query area it n)
+        rw (single-refused book query area n (stepped no-figures it), single-kept book query area n it)
         (record {
           narrow = record { place = omega (arith, low .place); bytes = omega arith };
           span = refl;

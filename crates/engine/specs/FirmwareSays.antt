@@ -2,7 +2,7 @@
 -- 32 hold the steps."
 use Prim.Native.Nat.{ℕ, _+_, _*_, _%_, _/_, _^_, _≤_, _<_}
 use native.Mathlib.Omega.{arith}
-use borrow.Author.Tests.{lt-ltb, le-ltb}
+use borrow.Author.Tests.{lt-ltb, le-ltb, eq-eqb, ne-eqb}
 use mathlib.Core.Path.{_≡_, ap}
 use mathlib.Core.List.{List}
 use Rattle.terms.specs.When.{_⇒_∣_}
@@ -14,7 +14,7 @@ use Rattle.engine.specs.Outcome.{runAnswer, pickAnswer, applyAnswer}
 use Rattle.engine.specs.Firmware.{field, number, code-back, field-back, steps-back, field-narrow}
 use Rattle.engine.specs.Figures.{answer-code, run-narrow}
 use Rattle.engine.specs.Zeros.{run-refuses}
-use Rattle.engine.specs.CallNumbers.{pickNumber, applyField, applyNumber, apply-field-narrow}
+use Rattle.engine.specs.CallNumbers.{pickTop, pickNumber, applyField, applyNumber, apply-field-narrow}
 use Rattle.engine.specs.CallFigures.{pick-clause, pick-place, pick-code, pick-narrow, apply-narrow, apply-code, apply-refuses}
 
 module _ (a : Answer) where
@@ -43,22 +43,37 @@ module _ (book query : List ℕ) (budget : ℕ) (area : List ℕ) where
       let f = field-narrow answer (run-narrow book query budget area bytes) in
       (code-back (answer .code) (field answer) (answer .steps) c f, field-back (answer .code) (field answer) (answer .steps) c f, steps-back (answer .code) (field answer) (answer .steps) c f)
 
--- The pick: the place where it is refused, and the clause number otherwise.
+-- The pick: the place where it is refused, with 22 the two figures, and the clause number otherwise.
 module _ (book query : List ℕ) where
   abbrev picked : Picked
   picked = pickAnswer book query
 
+  top-clause : (picked .code ≡ 22 → ⊥) → pickTop picked ≡ picked .clause
+  top-clause n = ap (λ b. b ⇒ picked .furthest + 2 ^ 16 * picked .argument ∣ picked .clause) (ne-eqb (picked .code) 22 n)
+
+  top-figures : picked .code ≡ 22 → pickTop picked ≡ picked .furthest + 2 ^ 16 * picked .argument
+  top-figures e = ap (λ b. b ⇒ picked .furthest + 2 ^ 16 * picked .argument ∣ picked .clause) (eq-eqb (picked .code) 22 e)
+
   pub pick-number-refused : picked .code < 20 → pickNumber picked ≡ picked .code + 256 * picked .place
-  pick-number-refused l = omega (arith, pick-clause book query (λ e. omega (arith, l, e)))
+  pick-number-refused l = omega (arith, top-clause (λ e. omega (arith, l, e)), pick-clause book query (λ e. omega (arith, l, e)))
 
-  pub pick-number-taken : 20 ≤ picked .code → pickNumber picked ≡ picked .code + 4294967296 * picked .clause
-  pick-number-taken h = omega (arith, pick-place book query h)
+  pub pick-number-taken : 20 ≤ picked .code → (picked .code ≡ 22 → ⊥) → pickNumber picked ≡ picked .code + 4294967296 * picked .clause
+  pick-number-taken h n = omega (arith, top-clause n, pick-place book query h)
 
-  pub pick-number-parts : (pickNumber picked % 256 ≡ picked .code) × (pickNumber picked / 256 % 2 ^ 24 ≡ picked .place) × (pickNumber picked / 2 ^ 32 ≡ picked .clause)
-  pick-number-parts =
+  pub pick-number-stuck : picked .code ≡ 22 → pickNumber picked ≡ 22 + 4294967296 * picked .furthest + 281474976710656 * picked .argument
+  pick-number-stuck e = omega (arith, e, top-figures e, pick-place book query (omega (arith, e)))
+
+  pub pick-number-parts : Bytes book → Bytes query → (pickNumber picked % 256 ≡ picked .code) × (pickNumber picked / 256 % 2 ^ 24 ≡ picked .place) × (pickNumber picked / 2 ^ 32 ≡ pickTop picked)
+  pick-number-parts book-bytes query-bytes =
       let c : picked .code < 256 = omega (arith, pick-code book query) in
-      let f = pick-narrow book query in
-      (code-back (picked .code) (picked .place) (picked .clause) c f, field-back (picked .code) (picked .place) (picked .clause) c f, steps-back (picked .code) (picked .place) (picked .clause) c f)
+      let f = pick-narrow book query book-bytes query-bytes .place in
+      (code-back (picked .code) (picked .place) (pickTop picked) c f, field-back (picked .code) (picked .place) (pickTop picked) c f, steps-back (picked .code) (picked .place) (pickTop picked) c f)
+
+  -- and with 22 both figures, of these
+  pub pick-figures-parts : Bytes book → Bytes query → picked .code ≡ 22 → (pickTop picked % 2 ^ 16 ≡ picked .furthest) × (pickTop picked / 2 ^ 16 ≡ picked .argument)
+  pick-figures-parts book-bytes query-bytes e =
+      let f = pick-narrow book query book-bytes query-bytes .furthest in
+      (omega (arith, f, top-figures e), omega (arith, f, top-figures e))
 
 -- The apply call: the place where its input is refused, nothing beside the code where it is refused otherwise, and the bytes and the clause number where it is taken.
 module _ (book query : List ℕ) (clause : ℕ) (area : List ℕ) where

@@ -11,6 +11,7 @@ use Rattle.search.specs.Run.{Closed, run}
 use Rattle.search.specs.Told.{Told}
 use Rattle.search.specs.ToldLaws.{run-told}
 use Rattle.search.specs.Single.{Single, step}
+use Rattle.search.specs.Furthest.{no-figures}
 use Rattle.search.specs.Pick.{pick, apply-by}
 use Rattle.records.specs.declared.Check.{Check}
 use Rattle.records.specs.Format.{GoodBook, GoodGoal, encodeBook, encodeGoal, Bytes}
@@ -19,7 +20,7 @@ use Rattle.records.proofs.Meaning.{book-written, query-written}
 use Rattle.records.proofs.Decoding.{bookOf-good, goalOf-good, bookOf-image, goalOf-image}
 use Rattle.records.proofs.Premises.{book-clauses, goal-premises}
 use Rattle.engine.specs.declared.admit.Admitted.{Admitted}
-use Rattle.engine.specs.Outcome.{refusal, over, ended, runAnswer, runArea, stepped, stepSaid, leaves, stepAnswer, stepArea, pickedAs, pickAnswer, applyAnswer, applyArea}
+use Rattle.engine.specs.Outcome.{refusal, over, ended, runAnswer, runArea, stepped, stepSaid, leaves, stepAnswer, stepArea, pickSaid, pickAnswer, applyAnswer, applyArea}
 use Rattle.engine.specs.Refusals.{query-decides, Good, not-refused}
 use Rattle.engine.specs.Stepping as Stepping
 use Rattle.engine.specs.Running as Running
@@ -49,9 +50,9 @@ module _ (P : Book) (good-book : GoodBook P) (q : Goal) (good-goal : GoodGoal q)
       taken-iff (encodeBook P) (encodeGoal q) room .1
       (record { enough = long; book-good = ap (λ (c : Check). c .code) (book-written P good-book); query-good = ap (λ (c : Check). c .code) (query-written q good-goal) })
 
-  pub pick-of-good : pickAnswer (encodeBook P) (encodeGoal q) ≡ pickedAs (pick P q)
+  pub pick-of-good : pickAnswer (encodeBook P) (encodeGoal q) ≡ pickSaid P q (pick P q)
   pick-of-good =
-      pick-taken (encodeBook P) (encodeGoal q) (room-enough 16387 (omega arith)) ∙ ap pickedAs (ap₂ pick (bookOf-image P good-book) (goalOf-image q good-goal))
+      pick-taken (encodeBook P) (encodeGoal q) (room-enough 16387 (omega arith)) ∙ ap₂ (λ b g. pickSaid b g (pick b g)) (bookOf-image P good-book) (goalOf-image q good-goal)
 
 module _ (P : Book) (good-book : GoodBook P) (q : Goal) (good-goal : GoodGoal q) (area : List ℕ) (long : 16387 ≤ length area) where
   pub nothing-refused : refusal (encodeBook P) (encodeGoal q) (length area) .code ≡ 0
@@ -62,12 +63,12 @@ module _ (P : Book) (good-book : GoodBook P) (q : Goal) (good-goal : GoodGoal q)
       let same : step (bookOf (encodeBook P)) (goalOf (encodeGoal q)) ≡ step P q = ap₂ step (bookOf-image P good-book) (goalOf-image q good-goal) in
       (Stepping.answer-taken (encodeBook P) (encodeGoal q) area nothing-refused ∙ ap₂ (λ b g. stepSaid b g (step b g)) (bookOf-image P good-book) (goalOf-image q good-goal), Stepping.area-taken (encodeBook P) (encodeGoal q) area nothing-refused ∙ ap (λ (s : Single). leaves (s .written) area) same)
 
-  pub apply-of-good : (k : ℕ) → (applyAnswer (encodeBook P) (encodeGoal q) k area ≡ stepped (apply-by P q k)) × (applyArea (encodeBook P) (encodeGoal q) k area ≡ leaves (apply-by P q k .written) area)
+  pub apply-of-good : (k : ℕ) → (applyAnswer (encodeBook P) (encodeGoal q) k area ≡ stepped no-figures (apply-by P q k)) × (applyArea (encodeBook P) (encodeGoal q) k area ≡ leaves (apply-by P q k .written) area)
   apply-of-good k =
       let same : apply-by (bookOf (encodeBook P)) (goalOf (encodeGoal q)) k ≡ apply-by P q k = ap₂ (λ b g. apply-by b g k) (bookOf-image P good-book) (goalOf-image q good-goal) in
       let it = apply-by (bookOf (encodeBook P)) (goalOf (encodeGoal q)) k in (
-        Stepping.single-taken (encodeBook P) (encodeGoal q) area it nothing-refused ∙ ap stepped same,
-        Stepping.single-written (encodeBook P) (encodeGoal q) area it nothing-refused ∙ ap (λ (s : Single). leaves (s .written) area) same,
+        Stepping.single-taken (encodeBook P) (encodeGoal q) area nothing-refused (stepped no-figures it) ∙ ap (stepped no-figures) same,
+        Stepping.single-written (encodeBook P) (encodeGoal q) area nothing-refused it ∙ ap (λ (s : Single). leaves (s .written) area) same,
       )
 
   module _ (budget : ℕ) where

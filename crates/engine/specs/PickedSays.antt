@@ -21,9 +21,9 @@ use Rattle.engine.specs.CallSays as Says
 
 -- the next goal of q by P, from the clause number k, with what is answered and left: it is written, or there is no room for it
 pub data GivesNext (P : Book) (q : Goal) (k : ℕ) (area : List ℕ) : Stepped → List ℕ → Type 0 where
-  full : (h : Goal) → Next P q k h → Too-big h → GivesNext P q k area (record { code = 24; place = 0; steps = 0; span = 0; bytes = 0; clause = 0 }) area
+  full : (h : Goal) → Next P q k h → Too-big h → GivesNext P q k area (record { code = 24; place = 0; steps = 0; span = 0; bytes = 0; clause = 0; furthest = 0; argument = 0 }) area
   went : (h : Goal) → Next P q k h → length h ≤ 512 → nodes h ≤ 4096
-      → GivesNext P q k area (record { code = 25; place = 0; steps = 1; span = 0; bytes = length (encodeGoal h); clause = k }) (encodeGoal h ++ drop (length (encodeGoal h)) area)
+      → GivesNext P q k area (record { code = 25; place = 0; steps = 1; span = 0; bytes = length (encodeGoal h); clause = k; furthest = 0; argument = 0 }) (encodeGoal h ++ drop (length (encodeGoal h)) area)
 
 -- the first clause that meets is the clause of its number, and meets
 record FirstAt (f : Expr) (P : Book) (k : ℕ) (c : Clause) : Type 0 where
@@ -46,7 +46,7 @@ record Chosen (P : Book) (q : Goal) (k : ℕ) : Type 0 where
 
 chosen-by : {P : Book} {q : Goal} {r : Picked} → PickSays P q r → r .code ≡ 25 → Chosen P q (r .clause)
 chosen-by (Says.solved e) is = absurd (omega arith)
-chosen-by (Says.stuck f g e n k) is = absurd (omega arith)
+chosen-by (Says.stuck f g e n k w x) is = absurd (omega arith)
 chosen-by (Says.unknown f g e n u) is = absurd (omega arith)
 chosen-by (chosen f g k c e m) is = record { formula = f; rest = g; clause = c; goal = e; is-first = m }
 

@@ -1,10 +1,14 @@
 -- Why a goal is stuck, of a good book: what its figures say (document 02, C-19).
+use Prim.Native.Nat.{_≤_}
+use native.Mathlib.Nat.{add-zero}
+use lib.ListN.{length}
 use mathlib.Core.Path.{_≡_, refl, sym as inv, _∙_}
 use mathlib.Core.Logic.{inl, inr}
 use mathlib.Core.Option.{some, Option·none-ne-some, Option·some-injective}
 use mathlib.Core.List.{[], _∷_}
-use Rattle.terms.specs.Node.{var, sym, Expr}
-use Rattle.terms.specs.Row.{Row, Atom, atom}
+use Rattle.terms.specs.Node.{Symbol, arity, var, sym, Expr}
+use Rattle.terms.specs.Row.{Row, row-sym, Atom, atom}
+use Rattle.terms.specs.RowLaws.{row-long}
 use Rattle.search.specs.Next.{Book, Clauses, None-meets}
 use Rattle.search.specs.Known.{symbol-of, Alike, Known}
 use Rattle.search.specs.KnownLaws.{Atom-heads}
@@ -21,6 +25,10 @@ clauses-heads (c ∷ P) g = (formula-atom (g .0 .formulas .0), clauses-heads P (
 
 pub good-heads : (P : Book) → GoodBook P → Atom-heads P
 good-heads P good = clauses-heads P (good .clauses)
+
+-- there are as many arguments as the arity says
+pub arguments-fit : (s : Symbol) (a : Expr) → Row 1 (sym s ∷ a) → arity s ≤ length a
+arguments-fit s a (row-sym r) = row-long (rw add-zero at r)
 
 -- a formula of a predicate that the book knows begins with that predicate
 alike-atom : (f : Expr) {h : Expr} → Atom h → Alike f h → Atom f

@@ -1,6 +1,6 @@
 -- Why it is stuck, over bytes (document 02, C-19): "The step, the pick and the run all hand on the clause that got furthest (lowest number on equal counts) and that
 -- argument. With every code but 22 these two figures are 0".
-use Prim.Native.Nat.{ℕ}
+use Prim.Native.Nat.{ℕ, _≤_, _<_}
 use native.Mathlib.Omega.{arith}
 use native.Mathlib.Decide.{ℕ-discrete}
 use mathlib.Core.Path.{_≡_, refl, sym as inv, ap, _∙_, subst}
@@ -8,8 +8,9 @@ use mathlib.Core.Option.{some}
 use mathlib.Core.List.{List, _∷_}
 use lib.ListN.{length}
 use Rattle.terms.specs.Node.{Expr}
-use Rattle.terms.specs.Row.{Formulas}
+use Rattle.terms.specs.Row.{Row, Formulas}
 use Rattle.search.specs.Next.{Book, Goal, Clauses}
+use Rattle.search.specs.Room.{nodes}
 use Rattle.search.specs.KnownLaws.{Atom-heads}
 use Rattle.search.specs.Run.{goal-at}
 use Rattle.search.specs.Pick as Pick
@@ -28,7 +29,7 @@ use Rattle.engine.specs.Running as Running
 use Rattle.engine.specs.Calls.{pick-refused, pick-taken}
 use Rattle.engine.specs.Figures.{refusal-low}
 use Rattle.engine.specs.Images.{images}
-use Rattle.engine.specs.Stuck.{good-heads, stuck-says}
+use Rattle.engine.specs.Stuck.{good-heads, arguments-fit, stuck-says}
 use Rattle.engine.specs.StepSays.{StepSays, solved, stuck, unknown, full, went, step-taken, step-says}
 use Rattle.engine.specs.RunSays as RunSays
 use Rattle.engine.specs.RunSays.{Means, run-means}
@@ -37,6 +38,12 @@ use Rattle.engine.specs.RunSays.{Means, run-means}
 -- late (search, Furthest and Fail).
 abbrev pub Stuck-at : Book → Goal → ℕ → ℕ → Type 0
 Stuck-at P g k a = (f : Expr) × (rest : Goal) × (g ≡ f ∷ rest) × Furthest P f (record { clause = k; argument = a })
+
+-- the clause is one of the book, the argument one of the formula
+pub why-small : {P : Book} {g : Goal} {k a : ℕ} → Formulas g → Stuck-at P g k a → (k < length P) × (a ≤ nodes g)
+why-small formulas (f, rest, e, x) =
+    let t = x .fails in
+    (x .within, omega (arith, t .within, arguments-fit (t .predicate) (t .ours) (subst (Row 1) (t .formula) (subst Formulas e formulas .0)), ap length (t .formula), ap nodes e))
 
 figures-0 : (P : Book) (code : ℕ) (g : Goal) → (code ≡ 22 → ⊥) → (figures P code g .clause ≡ 0) × (figures P code g .argument ≡ 0)
 figures-0 P code g n = let e = figures-other P code g n in (ap (λ (w : Figures). w .clause) e, ap (λ (w : Figures). w .argument) e)
@@ -111,7 +118,7 @@ module _ (book query : List ℕ) where
   abbrev picked : Picked
   picked = pickAnswer book query
 
-  pick-good : picked .code ≡ 22 → refusal book query 16387 .code ≡ 0
+  pub pick-good : picked .code ≡ 22 → refusal book query 16387 .code ≡ 0
   pick-good c = elim (ℕ-discrete (refusal book query 16387 .code) 0) [
     | yes z ↦ z
     | no n ↦ absurd (omega (arith, c, ap (λ (r : Picked). r .code) (pick-refused book query n), refusal-low book query 16387 .code))
