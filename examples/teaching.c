@@ -26,10 +26,14 @@ static uint8_t areas[2][PITXARGOLE_AREA];
 
 static void show(uint32_t rule) { printf("  rule %u: %s\n", (unsigned)rule, rules[rule]); }
 
+static void stuck_at(uint32_t rule, uint32_t argument) {
+    printf("  stuck: rule %u, %s gets furthest, and fails at argument %u\n", (unsigned)rule, rules[rule], (unsigned)argument);
+}
+
 static void closed(uint64_t answer) {
     switch (pitxargole_code(answer)) {
         case PITXARGOLE_SOLVED: printf("  solved\n"); break;
-        case PITXARGOLE_STUCK: printf("  stuck\n"); break;
+        case PITXARGOLE_STUCK: stuck_at(pitxargole_clause(answer), pitxargole_argument(answer)); break;
         case PITXARGOLE_UNKNOWN: printf("  no rule has this predicate\n"); break;
         default: printf("  code %u, place or bytes %u\n", (unsigned)pitxargole_code(answer), (unsigned)pitxargole_place_or_bytes(answer));
     }
@@ -60,11 +64,20 @@ static void choose(uint32_t rule) {
     printf("by rule %u: code %u\n", (unsigned)rule, (unsigned)pitxargole_code(applied));
 }
 
+/* The same reason after a run, from the goal that it left. */
+static void run_stuck(void) {
+    uint64_t answer = pitxargole_run(10000, book, sizeof book, stuck, sizeof stuck, areas[0], sizeof areas[0]);
+    printf("code %u after %u steps\n", (unsigned)pitxargole_code(answer), (unsigned)pitxargole_steps(answer));
+    closed(pitxargole_pick(book, sizeof book, areas[0], pitxargole_place_or_bytes(answer)));
+}
+
 int main(void) {
     teach("supplies(P,c7)", solved, sizeof solved);
     teach("supplies(pump_2,c8)", stuck, sizeof stuck);
     teach("suplies(P,c7)", unknown, sizeof unknown);
     printf("?- supplies(P,c7).\n");
     for (uint32_t rule = 0; rule <= 4; rule++) choose(rule);
+    printf("?- supplies(pump_2,c8).\n");
+    run_stuck();
     return 0;
 }

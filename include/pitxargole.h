@@ -43,7 +43,8 @@ extern "C" {
 uint64_t pitxargole_run(uint32_t budget, const uint8_t *book, uint64_t book_length, const uint8_t *query, uint64_t query_length, uint8_t *area,
                         uint64_t area_length);
 
-/* Says which clause the next step of the query would take. It needs no area, and does not look at the next goal's size. */
+/* Says which clause the next step of the query would take, or with STUCK which clause got furthest and where it failed. It needs no area, and does not
+   look at the next goal's size. To learn why a run is stuck, give it the goal that the run left in its area. */
 uint64_t pitxargole_pick(const uint8_t *book, uint64_t book_length, const uint8_t *query, uint64_t query_length);
 
 /* Takes one step by the clause of that number, from 0, be it the picked one or another whose head unifies. To go on from the next goal, give it as the
@@ -56,8 +57,11 @@ uint8_t pitxargole_code(uint64_t answer);
 uint32_t pitxargole_place_or_bytes(uint64_t answer); /* the place of the first fault for codes 1 to 19, and the bytes written otherwise */
 uint32_t pitxargole_steps(uint64_t answer);          /* of a run */
 
-/* The clause number that a pick or an apply gives with STEP. */
+/* The clause number that a pick or an apply gives with STEP; with STUCK the clause, of the leftmost formula's predicate and arity, whose head got furthest,
+   and the lowest of these. */
 static inline uint32_t pitxargole_clause(uint64_t answer) { return (uint32_t)(answer >> 32) & 0xffff; }
+/* With a pick's STUCK that head's first argument, from 1, at which the arguments up to and including it can't be unified together; otherwise 0. */
+static inline uint32_t pitxargole_argument(uint64_t answer) { return (uint32_t)(answer >> 48); }
 
 #ifdef __cplusplus
 }

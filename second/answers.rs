@@ -17,14 +17,19 @@ fn check(counted: Result<usize, Refusal>) -> String {
     }
 }
 
-/// "For C the answer is one 64-bit number", with the steps of a run, or the clause number of a pick and of an apply, in its top 32 bits.
+/// "For C the answer is one 64-bit number". Its top 32 bits have the steps of a run, or the clause number of a pick and of an apply: with code 22 that of
+/// the clause that got furthest, and in the upper 16 of them the argument.
 fn number(a: &Answer, top: u32) -> u64 {
     let field = if a.code < 20 { a.place } else { a.bytes };
     a.code as u64 + field as u64 * 256 + top as u64 * 4294967296
 }
 
-fn six(a: &Answer) -> String {
-    format!("{} {} {} {} {} {}", a.code, a.place, a.steps, a.span, a.bytes, a.clause)
+fn clause_and_argument(a: &Answer) -> u32 {
+    if a.code == 22 { a.furthest + a.argument * 65536 } else { a.clause }
+}
+
+fn all(a: &Answer) -> String {
+    format!("{} {} {} {} {} {} {} {}", a.code, a.place, a.steps, a.span, a.bytes, a.clause, a.furthest, a.argument)
 }
 
 fn of_run(case: &Case, area: &mut [u8]) -> Result<Answer, String> {
@@ -39,11 +44,11 @@ fn of_run(case: &Case, area: &mut [u8]) -> Result<Answer, String> {
 fn lent(entry: Entry, case: &Case) -> Result<String, String> {
     let mut area = case.area.bytes();
     let numbers = match entry {
-        Entry::Step => six(&step(&case.book, &case.query, &mut area)),
-        Entry::Apply => six(&apply(&case.book, &case.query, case.number, &mut area)),
+        Entry::Step => all(&step(&case.book, &case.query, &mut area)),
+        Entry::Apply => all(&apply(&case.book, &case.query, case.number, &mut area)),
         Entry::ApplyForC => {
             let a = apply(&case.book, &case.query, case.number, &mut area);
-            number(&a, a.clause).to_string()
+            number(&a, clause_and_argument(&a)).to_string()
         }
         Entry::RunForC => {
             let a = of_run(case, &mut area)?;
@@ -51,7 +56,7 @@ fn lent(entry: Entry, case: &Case) -> Result<String, String> {
         }
         _ => {
             let a = of_run(case, &mut area)?;
-            format!("{} {} {} {} {}", a.code, a.place, a.steps, a.span, a.bytes)
+            format!("{} {} {} {} {} {} {}", a.code, a.place, a.steps, a.span, a.bytes, a.furthest, a.argument)
         }
     };
     Ok(format!("{numbers} {}", sum(&area)))
@@ -59,9 +64,9 @@ fn lent(entry: Entry, case: &Case) -> Result<String, String> {
 
 fn picked(entry: Entry, a: Answer) -> String {
     if entry == Entry::PickForC {
-        return number(&a, a.clause).to_string();
+        return number(&a, clause_and_argument(&a)).to_string();
     }
-    format!("{} {} {} {}", a.code, a.place, a.steps, a.clause)
+    format!("{} {} {} {} {} {}", a.code, a.place, a.steps, a.clause, a.furthest, a.argument)
 }
 
 pub fn line(item: &Item) -> Result<String, String> {

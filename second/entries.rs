@@ -2,6 +2,7 @@
 use crate::image;
 use crate::path::{Next, NoRoom, fit, fitting, follow, next, next_goal, none_fits};
 use crate::read;
+use crate::reason::furthest;
 use crate::tree::{Clause, Goal};
 
 #[derive(Default, Clone, Copy, PartialEq, Debug)]
@@ -12,6 +13,9 @@ pub struct Answer {
     pub span: u32,
     pub bytes: u32,
     pub clause: u32,
+    /// The clause that got furthest, and the argument at which its head fails: other than 0 with code 22 alone.
+    pub furthest: u32,
+    pub argument: u32,
 }
 
 fn refused(refusal: read::Refusal) -> Answer {
@@ -39,7 +43,16 @@ fn write(goal: &Goal, area: &mut [u8]) -> u32 {
 
 /// One step taken by a clause.
 fn stepped(clause: u32, goal: &Goal, area: &mut [u8]) -> Answer {
-    Answer { code: 25, place: 0, steps: 1, span: 0, bytes: write(goal, area), clause }
+    Answer { steps: 1, bytes: write(goal, area), clause, ..only(25) }
+}
+
+/// The code at a state's goal, and with 22 the figures.
+fn at(code: u8, clauses: &[Clause], goal: &Goal) -> Answer {
+    if code != 22 {
+        return only(code);
+    }
+    let (clause, argument) = furthest(clauses, goal);
+    Answer { furthest: clause as u32, argument: argument as u32, ..only(22) }
 }
 
 pub fn run(book: &[u8], query: &[u8], budget: u32, area: &mut [u8]) -> Answer {
@@ -48,7 +61,7 @@ pub fn run(book: &[u8], query: &[u8], budget: u32, area: &mut [u8]) -> Answer {
         Err(answer) => return answer,
     };
     let (code, span, state) = follow(&clauses, goal, budget);
-    Answer { code, place: 0, steps: state.t, span, bytes: write(&state.goal, area), clause: 0 }
+    Answer { steps: state.t, span, bytes: write(&state.goal, area), ..at(code, &clauses, &state.goal) }
 }
 
 pub fn step(book: &[u8], query: &[u8], area: &mut [u8]) -> Answer {
@@ -60,7 +73,7 @@ pub fn step(book: &[u8], query: &[u8], area: &mut [u8]) -> Answer {
         return only(20);
     }
     match next_goal(&clauses, &goal) {
-        Next::Stuck => only(none_fits(&clauses, &goal)),
+        Next::Stuck => at(none_fits(&clauses, &goal), &clauses, &goal),
         Next::NoRoom => only(24),
         Next::Goal(number, goal) => stepped(number as u32, &goal, area),
     }
@@ -77,7 +90,7 @@ pub fn pick(book: &[u8], query: &[u8]) -> Answer {
     }
     match fitting(&clauses, &goal) {
         Some((number, _)) => Answer { clause: number as u32, ..only(25) },
-        None => only(none_fits(&clauses, &goal)),
+        None => at(none_fits(&clauses, &goal), &clauses, &goal),
     }
 }
 

@@ -8,6 +8,7 @@ use crate::item::{Area, Case, ENTRIES, Entry, Item};
 use crate::list::{self, Line};
 use crate::read;
 use crate::rooms;
+use crate::stuck;
 use crate::table;
 use crate::unknown;
 use crate::worked;
@@ -75,6 +76,7 @@ fn random_case(lines: &[Line], dice: &mut Dice) -> Case {
         16..26 => chains::random(dice),
         26..36 => circles::random(dice),
         36 => rooms::random(dice),
+        37..43 => stuck::random(dice),
         _ => weighted(lines, dice).case(0, dice),
     };
     if dice.once_in(12) {

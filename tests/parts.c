@@ -1,5 +1,5 @@
-/* The parts of an answer are those that it is made of: every code, every place or number of bytes, and steps with every lower and upper half, the lower of
-   which is a clause number. */
+/* The parts of an answer are those that it is made of: every code, every place or number of bytes, and steps with every lower and upper half, which are
+   a clause number and an argument. */
 #include <stdio.h>
 
 #include "pitxargole.h"
@@ -7,7 +7,7 @@
 static void same(uint64_t code, uint64_t field, uint64_t steps, int *wrong) {
     uint64_t answer = code + 256 * field + 4294967296 * steps;
     if (pitxargole_code(answer) == code && pitxargole_place_or_bytes(answer) == field && pitxargole_steps(answer) == steps &&
-        pitxargole_clause(answer) == steps % 65536)
+        pitxargole_clause(answer) == steps % 65536 && pitxargole_argument(answer) == steps / 65536)
         return;
     if (!*wrong) printf("%llu is not taken apart as it was put together\n", (unsigned long long)answer);
     *wrong = 1;

@@ -27,6 +27,8 @@ fn stepped(a: Stepped, area: &[u8]) -> bool {
     number(a.span as u64);
     number(a.bytes as u64);
     number(a.clause as u64);
+    number(a.furthest as u64);
+    number(a.argument as u64);
     last(sum(area));
     true
 }
@@ -46,7 +48,9 @@ pub fn pick(book: &[u8], query: &[u8]) -> bool {
     number(a.code as u64);
     number(a.place as u64);
     number(a.steps as u64);
-    last(a.clause as u64);
+    number(a.clause as u64);
+    number(a.furthest as u64);
+    last(a.argument as u64);
     true
 }
 
@@ -57,6 +61,8 @@ pub fn run(book: &[u8], query: &[u8], budget: u32, area: &mut [u8]) -> bool {
     number(a.steps as u64);
     number(a.span as u64);
     number(a.bytes as u64);
+    number(a.furthest as u64);
+    number(a.argument as u64);
     last(sum(area));
     true
 }
