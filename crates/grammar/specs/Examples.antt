@@ -9,7 +9,7 @@ use Rattle.terms.specs.Node.{constant, compound, predicate, var, sym}
 use Rattle.search.specs.Next as Next
 use Rattle.grammar.specs.Byte.{small, capital, digit, goes-on, starts-variable, is-blank, is-percent, is-line-end, is-bracket}
 use Rattle.grammar.specs.Token.{Token, name, variable, opening, closing, comma, arrow, stop, Piece, token, blank, comment, bytes, after-stop, Spells}
-use Rattle.grammar.specs.Front.{cut, pieces-of}
+use Rattle.grammar.specs.Front.{class, pieces-of}
 use Rattle.grammar.specs.TokenLaws.{pieces-are}
 use Rattle.grammar.specs.Syntax.{none, variable-then, name-then, Formula, Rule, written}
 use Rattle.grammar.specs.Names.{book, name-list}
@@ -81,7 +81,7 @@ abbrev parted : List ℕ
 parted = 102 ∷ 32 ∷ 40 ∷ 97 ∷ 41 ∷ 46 ∷ []
 
 pub parted-refused : {ts : List Token} → Spells parted ts → ⊥
-unfolding cut small capital digit goes-on starts-variable is-blank is-percent is-line-end is-bracket after-stop
+unfolding class small capital digit goes-on starts-variable is-blank is-percent is-line-end is-bracket after-stop
 parted-refused s =
     let p : s .pieces ≡ pieces-of 6 parted =
     inv (pieces-are 6 (s .pieces) (s .spaced) (omega (arith, ap length (s .whole)))) ∙ ap (pieces-of 6) (inv (s .whole)) in

@@ -33,22 +33,47 @@ arrow-at (b ∷ s) = eqb b 45 ⇒ front (token arrow) s ∣ broken arrow
 abbrev pub in-comment : ℕ → Bool
 in-comment b = not (is-line-end b)
 
-unfoldable pub cut : ℕ → List ℕ → Front
-cut b s =
-    is-bracket b ⇒ front (token opening) s
-    ∣ small b ⇒ front (token (name (b ∷ run goes-on s))) (past goes-on s)
-    ∣ starts-variable b ⇒ front (token (variable (b ∷ run goes-on s))) (past goes-on s)
-    ∣ is-blank b ⇒ front (blank b) s
-    ∣ is-percent b ⇒ front (comment (run in-comment s)) (past in-comment s)
-    ∣ eqb b 41 ⇒ front (token closing) s
-    ∣ eqb b 44 ⇒ front (token comma) s
-    ∣ eqb b 46 ⇒ stop-at s
-    ∣ eqb b 58 ⇒ arrow-at s
-    ∣ unexpected
+-- what a byte begins
+pub data Class : Type 0 where
+  a-bracket : Class
+  a-name : Class
+  a-variable : Class
+  a-blank : Class
+  a-comment : Class
+  a-closing : Class
+  a-comma : Class
+  a-stop : Class
+  an-arrow : Class
+  nothing : Class
+
+unfoldable pub class : ℕ → Class
+class b =
+    is-bracket b ⇒ a-bracket
+    ∣ small b ⇒ a-name
+    ∣ starts-variable b ⇒ a-variable
+    ∣ is-blank b ⇒ a-blank
+    ∣ is-percent b ⇒ a-comment
+    ∣ eqb b 41 ⇒ a-closing
+    ∣ eqb b 44 ⇒ a-comma
+    ∣ eqb b 46 ⇒ a-stop
+    ∣ eqb b 58 ⇒ an-arrow
+    ∣ nothing
+
+abbrev pub cut : Class → ℕ → List ℕ → Front
+cut a-bracket b s = front (token opening) s
+cut a-name b s = front (token (name (b ∷ run goes-on s))) (past goes-on s)
+cut a-variable b s = front (token (variable (b ∷ run goes-on s))) (past goes-on s)
+cut a-blank b s = front (blank b) s
+cut a-comment b s = front (comment (run in-comment s)) (past in-comment s)
+cut a-closing b s = front (token closing) s
+cut a-comma b s = front (token comma) s
+cut a-stop b s = stop-at s
+cut an-arrow b s = arrow-at s
+cut nothing b s = unexpected
 
 abbrev pub front-of : List ℕ → Front
 front-of [] = unexpected
-front-of (b ∷ s) = cut b s
+front-of (b ∷ s) = cut (class b) b s
 
 abbrev pub piece-before : Front → (List ℕ → List Piece) → List Piece
 piece-before (front p rest) more = p ∷ more rest

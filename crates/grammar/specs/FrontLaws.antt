@@ -8,7 +8,8 @@ use lib.Dec.{eqb}
 use Rattle.terms.specs.Cases.{cases}
 use Rattle.grammar.specs.Byte.{small, starts-variable, goes-on, is-blank, is-percent, is-line-end, is-bracket, All, No, Next, Next-not}
 use Rattle.grammar.specs.Token.{Token, name, variable, opening, closing, comma, arrow, stop, Piece, token, blank, comment, spelt, Stands, after-stop}
-use Rattle.grammar.specs.Front.{run, past, Front, front, broken, unexpected, stop-at, arrow-at, in-comment, cut, front-of}
+use Rattle.grammar.specs.TokenLaws.{Stays}
+use Rattle.grammar.specs.Front.{run, past, Front, front, broken, unexpected, stop-at, arrow-at, in-comment, class, front-of}
 
 module _ (test : ℕ → Bool) where
   pub run-past : (s : List ℕ) → s ≡ run test s ++ past test s
@@ -31,12 +32,6 @@ line-end : (rest : List ℕ) → Next-not in-comment rest → Next is-line-end r
 line-end [] p = tt
 line-end (b ∷ s) p = not-false (is-line-end b) p
 
--- as `Fits`, but for the bracket that may not follow a blank
-abbrev pub Stays : Piece → List ℕ → Type 0
-Stays (token t) rest = Stands t rest
-Stays (blank b) rest = is-blank b ≡ true
-Stays (comment c) rest = No is-line-end c × Next is-line-end rest
-
 -- the piece is a bracket just where the text begins with one
 abbrev pub Bracketed : Piece → List ℕ → Type 0
 Bracketed (token (name w)) s = Next-not is-bracket s
@@ -49,9 +44,19 @@ Bracketed (token stop) s = Next-not is-bracket s
 Bracketed (blank b) s = Next-not is-bracket s
 Bracketed (comment c) s = Next-not is-bracket s
 
+-- the first byte of a token that breaks off
+abbrev pub Half : Token → List ℕ → Type 0
+Half (name w) s = ⊥
+Half (variable w) s = ⊥
+Half opening s = ⊥
+Half closing s = ⊥
+Half comma s = ⊥
+Half arrow s = (x : List ℕ) × (s ≡ 58 ∷ x)
+Half stop s = (x : List ℕ) × (s ≡ 46 ∷ x)
+
 abbrev pub Shown : List ℕ → Front → Type 0
 Shown s (front p rest) = (s ≡ spelt p ++ rest) × Stays p rest × Bracketed p s
-Shown s (broken t) = Unit {0}
+Shown s (broken t) = Half t s
 Shown s unexpected = Unit {0}
 
 -- a word, or a comment, to its end
@@ -72,15 +77,15 @@ bracket-shown b s e = byte-shown b 40 s e
 
 stop-shown : (b : ℕ) (s : List ℕ) → eqb b 46 ≡ true → is-bracket b ≡ false → Shown (b ∷ s) (stop-at s)
 stop-shown b [] e nb = (byte-shown b 46 [] e, tt, nb)
-stop-shown b (c ∷ s) e nb = cases (after-stop c) (λ h. rw h (byte-shown b 46 (c ∷ s) e, h, nb)) (λ h. rw h tt)
+stop-shown b (c ∷ s) e nb = cases (after-stop c) (λ h. rw h (byte-shown b 46 (c ∷ s) e, h, nb)) (λ h. rw h (c ∷ s, byte-shown b 46 (c ∷ s) e))
 
 arrow-shown : (b : ℕ) (s : List ℕ) → eqb b 58 ≡ true → is-bracket b ≡ false → Shown (b ∷ s) (arrow-at s)
-arrow-shown b [] e nb = tt
+arrow-shown b [] e nb = ([], byte-shown b 58 [] e)
 arrow-shown b (c ∷ s) e nb =
-    cases (eqb c 45) (λ h. rw h (ap₂ _∷_ (eqb-true b 58 e) (ap (λ (k : ℕ). k ∷ s) (eqb-true c 45 h)), tt, nb)) (λ h. rw h tt)
+    cases (eqb c 45) (λ h. rw h (ap₂ _∷_ (eqb-true b 58 e) (ap (λ (k : ℕ). k ∷ s) (eqb-true c 45 h)), tt, nb)) (λ h. rw h (c ∷ s, byte-shown b 58 (c ∷ s) e))
 
 pub shown : (s : List ℕ) → Shown s (front-of s)
-unfolding cut
+unfolding class
 shown [] = tt
 shown (b ∷ s) =
     cases (is-bracket b) (λ e. rw e (bracket-shown b s e, tt, tt))

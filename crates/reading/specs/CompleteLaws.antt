@@ -43,7 +43,7 @@ variable-expected cs p v w d h l at =
 -- Arguments
 
 -- behind a name whose bracket may follow, or behind an argument
-abbrev opened : Turn → List Rule → Part → List ℕ → Done → State
+abbrev pub opened : Turn → List Rule → Part → List ℕ → Done → State
 opened first cs q w d = state cs q (named w)
 opened later cs q w d = state cs (inside q w d) complete
 
@@ -52,7 +52,7 @@ sign-taken cs q w none-yet at = refl
 sign-taken cs q w (and-variable d v) at = refl
 sign-taken cs q w (and-name d v own) at = refl
 
-later-shut : (ts : Terms) (r : List Token) → Shut (arguments-then later ts r)
+pub later-shut : (ts : Terms) (r : List Token) → Shut (arguments-then later ts r)
 later-shut none r = refl
 later-shut (variable-then w ts) r = refl
 later-shut (name-then w own ts) r = refl
@@ -138,7 +138,7 @@ formula-run cs fs g gs r e c h t =
     arguments-run (g .arguments) cs (formulas fs) (g .symbol) none-yet r e f h t
 
 -- what stands before the next formula of a body
-abbrev joint : List Formula → Token
+abbrev pub joint : List Formula → Token
 joint [] = arrow
 joint (f ∷ fs) = comma
 
@@ -146,7 +146,7 @@ joint-taken : (cs : List Rule) (f : Formula) (fs : List Formula) (at : ℕ) → 
 joint-taken cs f [] at = refl
 joint-taken cs f (h ∷ fs) at = refl
 
-body-shut : (sign : Token) (gs : List Formula) (r : List Token) → is-opening sign ≡ false → Shut (body-then sign gs r)
+pub body-shut : (sign : Token) (gs : List Formula) (r : List Token) → is-opening sign ≡ false → Shut (body-then sign gs r)
 body-shut sign [] r h = refl
 body-shut sign (g ∷ gs) r h = h
 

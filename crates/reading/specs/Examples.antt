@@ -5,7 +5,7 @@ use mathlib.Core.List.{List, [], _∷_, _++_}
 use Rattle.terms.specs.Node.{predicate, var, sym}
 use Rattle.grammar.specs.Byte.{small, capital, digit, goes-on, starts-variable, is-blank, is-percent, is-line-end, is-bracket}
 use Rattle.grammar.specs.Token.{after-stop}
-use Rattle.grammar.specs.Front.{cut}
+use Rattle.grammar.specs.Front.{class}
 use Rattle.grammar.specs.Syntax.{none, variable-then, name-then, Formula, Rule}
 use Rattle.grammar.specs.Names.{book, name-list}
 use Rattle.reading.specs.Reader.{read, refused, reading}
@@ -36,7 +36,7 @@ abbrev p1-rules : List Rule
 p1-rules = record { head = feeds X Y; body = feeds X Z ∷ pipe Z Y ∷ [] } ∷ []
 
 pub p1-read : reading p1 ≡ read p1-rules
-unfolding reading cut small capital digit goes-on starts-variable is-blank is-percent is-line-end is-bracket after-stop
+unfolding reading class small capital digit goes-on starts-variable is-blank is-percent is-line-end is-bracket after-stop
 p1-read = refl
 
 pub p1-accepted : Accepted p1 p1-rules
@@ -94,5 +94,5 @@ cases =
     ∷ []
 
 pub cases-refused : AllRefused cases
-unfolding reading cut small capital digit goes-on starts-variable is-blank is-percent is-line-end is-bracket after-stop
+unfolding reading class small capital digit goes-on starts-variable is-blank is-percent is-line-end is-bracket after-stop
 cases-refused = (refl, (refl, (refl, (refl, (refl, (refl, (refl, (refl, (refl, (refl, tt))))))))))

@@ -11,4 +11,11 @@ pub mod SoundLaws
 pub mod RunLaws
 pub mod CompleteLaws
 pub mod ReadingLaws
+pub mod Stop
+pub mod StopLaws
+pub mod Viable
+pub mod GoesLaws
+pub mod Unexpected
+pub mod UnexpectedLaws
+pub mod Refusal
 pub mod Examples

@@ -46,7 +46,7 @@ SmallTaken wrong = Unit {0}
 
 -- What a token that passes the tests leaves room for
 
-not-full : (p : Part) → full p ≡ false → Room p
+pub not-full : (p : Part) → full p ≡ false → Room p
 not-full (formulas fs) e = omega (arith, leb-false _ (length fs) e)
 not-full (inside p v d) e = omega (arith, leb-false _ (size d) e)
 

@@ -23,7 +23,7 @@ use Rattle.reading.specs.SoundLaws.{Found, sound}
 use Rattle.reading.specs.RunLaws.{Runs, walk-runs}
 use Rattle.reading.specs.CompleteLaws.{Ends, text-run}
 
-start-small : SmallState start
+pub start-small : SmallState start
 start-small = record { rules = tt; part = (tt, omega arith); count = omega arith; named = omega arith; mode = omega arith }
 
 unread : {X : Type 0} {code at : ℕ} {cs : List Rule} → refused code at ≡ read cs → X

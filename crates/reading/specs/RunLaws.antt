@@ -8,7 +8,7 @@ use borrow.Author.Tests.{eqb-true, ne-eqb}
 use lib.ListN.{length, length-append}
 use Rattle.grammar.specs.Byte.{is-bracket, is-line-end, Next, Next-not}
 use Rattle.grammar.specs.Token.{Token, name, variable, opening, closing, comma, arrow, stop, Piece, token, blank, comment, spelt, bytes, Fits, Spaced, tokens}
-use Rattle.grammar.specs.TokenLaws.{front-is, spelt-long}
+use Rattle.grammar.specs.TokenLaws.{front-is, fits-stays, spelt-long}
 use Rattle.grammar.specs.Front.{Front, front, front-of}
 use Rattle.grammar.specs.Syntax.{none, Rule}
 use Rattle.reading.specs.Part.{Part, Mode, between, expects, named, complete, State, state, put, rules-of, is-opening, behind, settle}
@@ -50,16 +50,16 @@ unsettle-runs s h (run-step {t = t} j r) = run-step (λ at. inv (settle-judge s 
 -- Pieces
 
 -- behind a blank no bracket is the next token
-line-end-shut : (s : List ℕ) → Next is-line-end s → Next-not is-bracket s
+pub line-end-shut : (s : List ℕ) → Next is-line-end s → Next-not is-bracket s
 unfolding is-line-end is-bracket
 line-end-shut [] h = tt
 line-end-shut (b ∷ s) h = ne-eqb b 40 (λ (q : b ≡ 40). omega (arith, eqb-true b 10 h))
 
-abbrev Unopened : List Token → Type 0
+abbrev pub Unopened : List Token → Type 0
 Unopened [] = Unit {0}
 Unopened (t ∷ ts) = is-opening t ≡ false
 
-unopened : (ps : List Piece) → Spaced ps → Next-not is-bracket (bytes ps) → Unopened (tokens ps)
+pub unopened : (ps : List Piece) → Spaced ps → Next-not is-bracket (bytes ps) → Unopened (tokens ps)
 unfolding is-bracket
 unopened [] s h = tt
 unopened (token (name w) ∷ ps) s h = refl
@@ -72,7 +72,7 @@ unopened (token stop ∷ ps) s h = refl
 unopened (blank b ∷ ps) s h = unopened ps (s .1) (s .0 .1)
 unopened (comment c ∷ ps) s h = unopened ps (s .1) (line-end-shut (bytes ps) (s .0 .1))
 
-settle-between : (s : State) → s .mode ≡ between → settle s ≡ s
+pub settle-between : (s : State) → s .mode ≡ between → settle s ≡ s
 settle-between s h = same (s .mode) h
   where
     same : (m : Mode) → m ≡ between → settle (state (s .rules) (s .part) m) ≡ state (s .rules) (s .part) m
@@ -101,13 +101,13 @@ pub walk-runs : (k : ℕ) (s : State) (at : ℕ) (ps : List Piece) (e : State) �
 walk-runs zero s at ps e sp l r b = absurd (omega arith)
 walk-runs (suc k) s at [] e sp l run-end b = end-read (s .rules) (s .mode) at b
 walk-runs (suc k) s at (token t ∷ ps) e sp l (run-step {n = n} j r) b =
-    walk-front k s at (bytes (token t ∷ ps)) (token t) (bytes ps) (front-is (token t) (bytes ps) (sp .0))
+    walk-front k s at (bytes (token t ∷ ps)) (token t) (bytes ps) (front-is (token t) (bytes ps) (fits-stays (token t) (bytes ps) (sp .0)))
     ∙ ap (λ (o : Judged). go-on o (λ m. walk k m (at + length (spelt (token t))) (bytes ps))) (j at)
-    ∙ walk-runs k n (at + length (spelt (token t))) ps e (sp .1) (omega (arith, l, length-append (spelt (token t)) (bytes ps), spelt-long (token t) (bytes ps) (sp .0))) r b
+    ∙ walk-runs k n (at + length (spelt (token t))) ps e (sp .1) (omega (arith, l, length-append (spelt (token t)) (bytes ps), spelt-long (token t) (bytes ps) (fits-stays (token t) (bytes ps) (sp .0)))) r b
 walk-runs (suc k) s at (blank c ∷ ps) e sp l r b =
-    walk-front k s at (bytes (blank c ∷ ps)) (blank c) (bytes ps) (front-is (blank c) (bytes ps) (sp .0))
+    walk-front k s at (bytes (blank c ∷ ps)) (blank c) (bytes ps) (front-is (blank c) (bytes ps) (fits-stays (blank c) (bytes ps) (sp .0)))
     ∙ walk-runs k (settle s) (at + 1) ps e (sp .1) (omega (arith, l)) (gap-runs (tokens ps) (unopened ps (sp .1) (sp .0 .1)) r b) b
 walk-runs (suc k) s at (comment c ∷ ps) e sp l r b =
-    walk-front k s at (bytes (comment c ∷ ps)) (comment c) (bytes ps) (front-is (comment c) (bytes ps) (sp .0))
+    walk-front k s at (bytes (comment c ∷ ps)) (comment c) (bytes ps) (front-is (comment c) (bytes ps) (fits-stays (comment c) (bytes ps) (sp .0)))
     ∙ walk-runs k (settle s) (at + length (spelt (comment c))) ps e (sp .1) (omega (arith, l, length-append (spelt (comment c)) (bytes ps)))
     (gap-runs (tokens ps) (unopened ps (sp .1) (line-end-shut (bytes ps) (sp .0 .1))) r b) b

@@ -7,9 +7,9 @@ use native.Mathlib.Omega.{arith}
 use lib.ListN.{length, length-append}
 use Rattle.grammar.specs.Byte.{is-blank, is-bracket, is-line-end, Next, Next-not}
 use Rattle.grammar.specs.Token.{Token, name, variable, opening, closing, comma, arrow, stop, Piece, token, blank, comment, spelling, spelt, bytes, Stands, Spaced, tokens}
-use Rattle.grammar.specs.TokenLaws.{token-long}
+use Rattle.grammar.specs.TokenLaws.{token-long, Stays}
 use Rattle.grammar.specs.Front.{Front, front, broken, unexpected, front-of}
-use Rattle.grammar.specs.FrontLaws.{Stays, Bracketed, Shown, shown}
+use Rattle.grammar.specs.FrontLaws.{Bracketed, Shown, shown}
 use Rattle.grammar.specs.Syntax.{Rule, written}
 use Rattle.grammar.specs.Reading.{SmallRules}
 use Rattle.reading.specs.Part.{Part, formulas, Mode, between, expects, named, complete, State, state, rules-of, Taken, taken, wrong, next, settled, settled-mode, settle}
@@ -25,7 +25,7 @@ Settled expects = Unit {0}
 Settled (named w) = ⊥
 Settled complete = Unit {0}
 
-settled-settled : (m : Mode) → Settled (settled-mode m)
+pub settled-settled : (m : Mode) → Settled (settled-mode m)
 settled-settled between = tt
 settled-settled expects = tt
 settled-settled (named w) = tt
@@ -85,7 +85,7 @@ bracket-wrong rs p expects h = refl
 bracket-wrong rs p (named w) h = absurd h
 bracket-wrong rs p complete h = refl
 
-token-shut : (s : State) (t : Token) (n : State) (text : List ℕ) → Bracketed (token t) text → next (s .rules) (s .part) (s .mode) t ≡ taken n → Settled (s .mode) → Next-not is-bracket text
+pub token-shut : (s : State) (t : Token) (n : State) (text : List ℕ) → Bracketed (token t) text → next (s .rules) (s .part) (s .mode) t ≡ taken n → Settled (s .mode) → Next-not is-bracket text
 token-shut s (name w) n text b e h = b
 token-shut s (variable w) n text b e h = b
 token-shut s opening n text b e h = let z : _≡_ {A = ℕ} 0 1 = cc (bracket-wrong (s .rules) (s .part) (s .mode) h) in absurd (omega arith)
