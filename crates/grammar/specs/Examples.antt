@@ -1,17 +1,16 @@
 -- Texts and what they say: a comment, a lone `_` twice, one name of all three sorts, a blank before a bracket.
 use Prim.Native.Nat.{ℕ}
 use mathlib.Core.Path.{_≡_, refl, sym as inv, ap, _∙_}
-use mathlib.Core.Bool.{true, false, true≢false}
+use mathlib.Core.Bool.{true≢false}
 use mathlib.Core.List.{List, [], _∷_}
 use native.Mathlib.Omega.{arith}
 use lib.ListN.{length}
 use Rattle.terms.specs.Node.{constant, compound, predicate, var, sym}
-use Rattle.search.specs.Next as Next
 use Rattle.grammar.specs.Byte.{small, capital, digit, goes-on, starts-variable, is-blank, is-percent, is-line-end, is-bracket}
-use Rattle.grammar.specs.Token.{Token, name, variable, opening, closing, comma, arrow, stop, Piece, token, blank, comment, bytes, after-stop, Spells}
+use Rattle.grammar.specs.Token.{Token, name, variable, opening, closing, stop, token, blank, comment, after-stop, Spells}
 use Rattle.grammar.specs.Front.{class, pieces-of}
 use Rattle.grammar.specs.TokenLaws.{pieces-are}
-use Rattle.grammar.specs.Syntax.{none, variable-then, name-then, Formula, Rule, written}
+use Rattle.grammar.specs.Syntax.{none, variable-then, name-then, Rule}
 use Rattle.grammar.specs.Names.{book, name-list}
 use Rattle.grammar.specs.Reading.{Writes}
 

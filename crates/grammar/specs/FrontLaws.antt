@@ -1,13 +1,13 @@
 -- What is found at the front of a text stands there.
-use Prim.Native.Nat.{ℕ, zero, suc}
+use Prim.Native.Nat.{ℕ}
 use mathlib.Core.Path.{_≡_, refl, ap, ap₂}
-use mathlib.Core.Bool.{Bool, true, false, not}
+use mathlib.Core.Bool.{Bool, true, false}
 use mathlib.Core.List.{List, [], _∷_, _++_}
 use borrow.Author.Tests.{eqb-true, not-true, not-false}
 use lib.Dec.{eqb}
 use Rattle.terms.specs.Cases.{cases}
 use Rattle.grammar.specs.Byte.{small, starts-variable, goes-on, is-blank, is-percent, is-line-end, is-bracket, All, No, Next, Next-not}
-use Rattle.grammar.specs.Token.{Token, name, variable, opening, closing, comma, arrow, stop, Piece, token, blank, comment, spelt, Stands, after-stop}
+use Rattle.grammar.specs.Token.{Token, name, variable, opening, closing, comma, arrow, stop, Piece, token, blank, comment, spelt, after-stop}
 use Rattle.grammar.specs.TokenLaws.{Stays}
 use Rattle.grammar.specs.Front.{run, past, Front, front, broken, unexpected, stop-at, arrow-at, in-comment, class, front-of}
 

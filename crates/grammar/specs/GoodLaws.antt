@@ -1,7 +1,7 @@
 -- A book that is read from a text is good (records, Format), so that its check answers 0.
-use Prim.Native.Nat.{ℕ, zero, suc, _+_, _*_, _≤_, _<_}
+use Prim.Native.Nat.{ℕ, zero, suc, _+_, _≤_, _<_}
 use mathlib.Core.Path.{_≡_, refl, sym as inv, ap, _∙_}
-use mathlib.Core.List.{List, [], _∷_, _++_, map}
+use mathlib.Core.List.{List, [], _∷_, map}
 use native.Mathlib.Omega.{arith}
 use lib.ListN.{length, length-append}
 use Rattle.terms.specs.Node.{sym, Expr}
@@ -10,7 +10,7 @@ use Rattle.search.specs.Room.{nodes}
 use Rattle.words.specs.Flat.{flat, flat-size}
 use Rattle.words.specs.Word.{wordsOf}
 use Rattle.words.specs.PackLaws.{words-length}
-use Rattle.records.specs.Words.{goalWords, bookWords}
+use Rattle.records.specs.Words.{bookWords}
 use Rattle.records.specs.Reading.{bookVerdict}
 use Rattle.records.specs.Format as Format
 use Rattle.records.specs.Format.{terms-none, terms-var, terms-constant, terms-compound, formula, IsFormula, AreFormulas, GoodClause, GoodClauses, GoodBook, encodeBook}
@@ -18,9 +18,9 @@ use Rattle.records.proofs.Lengths.{words-few}
 use Rattle.records.proofs.Numbering as Numbering
 use Rattle.records.proofs.Meaning.{good, book-written}
 use Rattle.grammar.specs.Syntax.{Terms, none, variable-then, name-then, Formula, Rule}
-use Rattle.grammar.specs.Names.{Sort, Constant, Compound, Predicate, Spot, variable-spot, symbol-spot, count, called, spots-then, formula-spots, formulas-spots, rule-spots, text-spots}
+use Rattle.grammar.specs.Names.{Sort, Constant, Compound, Predicate, Spot, count, called, spots-then, formula-spots, formulas-spots, rule-spots, text-spots}
 use Rattle.grammar.specs.Names.{place, variable-number, with-variable, variables-after, symbol-of, numbered, numbered-all, clause, names, book}
-use Rattle.grammar.specs.NameLaws.{place-low, variable-low, with-one, variables-few, variables-append, names-few, numbered-length, flat-numbered, numbered-below, numbered-ordered}
+use Rattle.grammar.specs.NameLaws.{place-low, variable-low, with-one, variables-few, names-few, numbered-length, flat-numbered, numbered-below, numbered-ordered}
 use Rattle.grammar.specs.Reading.{Small, SmallFormula, SmallFormulas, SmallRule, SmallRules, Sized, Reading}
 
 -- Every symbol's number is below 65,536

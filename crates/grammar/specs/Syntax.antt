@@ -1,5 +1,5 @@
 -- A text as tokens: terms, formulas, rules (document 01's notation). Trees with names, and the tokens that they are written with.
-use Prim.Native.Nat.{ℕ, zero, suc}
+use Prim.Native.Nat.{ℕ}
 use mathlib.Core.List.{List, [], _∷_}
 use Rattle.grammar.specs.Token.{Token, name, variable, opening, closing, comma, arrow, stop}
 

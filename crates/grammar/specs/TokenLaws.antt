@@ -1,14 +1,14 @@
 -- A text has one list of pieces, and so one list of tokens.
 use Prim.Native.Nat.{ℕ, zero, suc, _≤_, _<_}
 use mathlib.Core.Path.{_≡_, refl, sym as inv, ap, _∙_}
-use mathlib.Core.Bool.{Bool, true, false, not}
+use mathlib.Core.Bool.{Bool, true, not}
 use mathlib.Core.List.{List, [], _∷_, _++_}
 use native.Mathlib.Omega.{arith}
 use lib.ListN.{length, length-append}
 use Rattle.grammar.specs.Byte.{small, starts-variable, goes-on, is-blank, is-percent, is-line-end, is-bracket, capital, All, No, Next, Next-not}
 use Rattle.grammar.specs.ByteLaws.{small-not-bracket, variable-not-bracket, blank-not-bracket, variable-not-small, blank-not-small, blank-not-variable}
 use Rattle.grammar.specs.Token.{Token, name, variable, opening, closing, comma, arrow, stop, Piece, token, blank, comment, spelling, spelt, bytes, Stands, Fits, Spaced, tokens, Spells}
-use Rattle.grammar.specs.Front.{run, past, Front, front, in-comment, class, front-of, piece-before, pieces-of}
+use Rattle.grammar.specs.Front.{run, past, front, in-comment, class, front-of, pieces-of}
 
 module _ (test : ℕ → Bool) where
   pub run-all : (w rest : List ℕ) → All test w → Next-not test rest → run test (w ++ rest) ≡ w

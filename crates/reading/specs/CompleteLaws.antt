@@ -1,20 +1,19 @@
 -- The tokens of rules that keep to the sizes are taken, and the rules come back.
-use Prim.Native.Nat.{ℕ, zero, suc, _+_, _≤_, _<_}
-use mathlib.Core.Path.{_≡_, refl, sym as inv, ap, _∙_}
-use mathlib.Core.Bool.{Bool, true, false, _||_, true≢false}
+use Prim.Native.Nat.{ℕ, _+_, _≤_}
+use mathlib.Core.Path.{_≡_, refl, sym as inv}
+use mathlib.Core.Bool.{false}
 use mathlib.Core.List.{List, [], _∷_}
 use native.Mathlib.Omega.{arith}
 use lib.ListN.{length}
-use lib.Dec.{leb}
 use borrow.Author.Tests.{lt-leb}
-use Rattle.grammar.specs.Token.{Token, name, variable, opening, closing, comma, arrow, stop}
+use Rattle.grammar.specs.Token.{Token, name, variable, comma, arrow}
 use Rattle.grammar.specs.Syntax.{Terms, none, variable-then, name-then, Formula, Rule, Turn, first, later, before, arguments-then, formula-then, body-then, written}
-use Rattle.grammar.specs.Names.{count, formulas-spots, rule-spots, with-variable, variables-after}
+use Rattle.grammar.specs.Names.{count, formulas-spots, with-variable, variables-after}
 use Rattle.grammar.specs.NameLaws.{variables-more, with-more}
-use Rattle.grammar.specs.Reading.{Small, SmallFormula, SmallFormulas, SmallRule, SmallRules}
-use Rattle.reading.specs.Part.{Done, none-yet, and-variable, and-name, Part, formulas, inside, Mode, between, expects, named, complete, State, state, start}
+use Rattle.grammar.specs.Reading.{Small, SmallFormulas, SmallRule, SmallRules}
+use Rattle.reading.specs.Part.{Done, none-yet, and-variable, and-name, Part, formulas, inside, between, expects, named, complete, State, state}
 use Rattle.reading.specs.Part.{terms-of, put, rule-of, rules-of, is-opening}
-use Rattle.reading.specs.Reader.{terms-nodes, done-nodes, formulas-nodes, nodes, terms-variables, formulas-variables, variables, size, full, crowded, limit, long, Judged, going, judge-token}
+use Rattle.reading.specs.Reader.{terms-nodes, formulas-nodes, nodes, terms-variables, formulas-variables, variables, size, full, crowded, going, judge-token}
 use Rattle.reading.specs.PrintLaws.{turn}
 use Rattle.reading.specs.SizeLaws.{formula-nodes, formula-variables}
 use Rattle.reading.specs.LimitLaws.{Room, Passes}

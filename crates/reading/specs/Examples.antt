@@ -1,12 +1,12 @@
 -- Document 01's P1 as text, and texts that are refused, by computing.
 use Prim.Native.Nat.{ℕ}
 use mathlib.Core.Path.{_≡_, refl}
-use mathlib.Core.List.{List, [], _∷_, _++_}
+use mathlib.Core.List.{List, [], _∷_}
 use Rattle.terms.specs.Node.{predicate, var, sym}
 use Rattle.grammar.specs.Byte.{small, capital, digit, goes-on, starts-variable, is-blank, is-percent, is-line-end, is-bracket}
 use Rattle.grammar.specs.Token.{after-stop}
 use Rattle.grammar.specs.Front.{class}
-use Rattle.grammar.specs.Syntax.{none, variable-then, name-then, Formula, Rule}
+use Rattle.grammar.specs.Syntax.{none, variable-then, Formula, Rule}
 use Rattle.grammar.specs.Names.{book, name-list}
 use Rattle.reading.specs.Reader.{read, refused, reading}
 use Rattle.reading.specs.ReadingLaws.{Accepted, reading-sound}

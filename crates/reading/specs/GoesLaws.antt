@@ -1,20 +1,18 @@
 -- The tokens of any rules are taken, whatever their sizes.
-use Prim.Native.Nat.{ℕ, zero, suc}
+use Prim.Native.Nat.{ℕ}
 use mathlib.Core.Path.{_≡_, refl, sym as inv, ap, _∙_}
-use mathlib.Core.Bool.{Bool, true, false, true≢false}
-use mathlib.Core.List.{List, [], _∷_, _++_}
-use native.Mathlib.Omega.{arith}
-use Rattle.grammar.specs.Byte.{Next-not, is-bracket}
-use Rattle.grammar.specs.Token.{Token, name, variable, opening, closing, comma, arrow, stop, Piece, token, blank, comment, bytes, Spaced, tokens}
-use Rattle.grammar.specs.Syntax.{Terms, none, variable-then, name-then, Formula, Rule, Turn, first, later, before, arguments-then, formula-then, body-then, written}
+use mathlib.Core.Bool.{false}
+use mathlib.Core.List.{List, [], _∷_}
+use Rattle.grammar.specs.Token.{Token, name, variable, comma, arrow, Piece, token, blank, comment, bytes, Spaced, tokens}
+use Rattle.grammar.specs.Syntax.{Terms, none, variable-then, name-then, Formula, Rule, first, later, before, arguments-then, formula-then, body-then, written}
 use Rattle.grammar.specs.Reading.{Writes}
 use Rattle.reading.specs.Part.{Done, none-yet, and-variable, and-name, Part, formulas, inside, Mode, between, expects, named, complete, State, state, start}
-use Rattle.reading.specs.Part.{terms-of, put, rule-of, rules-of, Taken, taken, wrong, is-opening, next, settle}
+use Rattle.reading.specs.Part.{terms-of, put, rule-of, Taken, taken, wrong, is-opening, next, settle}
 use Rattle.reading.specs.PrintLaws.{turn}
 use Rattle.reading.specs.RunLaws.{Shut, Unopened, unopened, line-end-shut, settle-between}
 use Rattle.reading.specs.CompleteLaws.{opened, later-shut, body-shut, joint}
-use Rattle.reading.specs.Stop.{behind-piece, and-then, behind-pieces}
-use Rattle.reading.specs.Viable.{goes}
+use Rattle.reading.specs.Stop.{and-then, behind-pieces}
+use Rattle.reading.specs.Whole.{goes}
 
 -- a name that stands alone, before what is no bracket
 settle-next : (s : State) (t : Token) → is-opening t ≡ false → next (settle s .rules) (settle s .part) (settle s .mode) t ≡ next (s .rules) (s .part) (s .mode) t

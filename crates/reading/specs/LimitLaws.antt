@@ -1,20 +1,20 @@
 -- What the reader goes on with has kept to the sizes.
-use Prim.Native.Nat.{ℕ, zero, suc, _+_, _≤_, _<_}
-use mathlib.Core.Path.{_≡_, refl, sym as inv, ap, _∙_}
+use Prim.Native.Nat.{ℕ, _≤_}
+use mathlib.Core.Path.{_≡_, refl}
 use mathlib.Core.Bool.{Bool, true, false, _||_}
 use mathlib.Core.List.{List, [], _∷_}
 use native.Mathlib.Omega.{arith}
 use lib.ListN.{length}
 use lib.Dec.{leb}
-use borrow.Author.Tests.{leb-true, leb-false}
+use borrow.Author.Tests.{leb-false}
 use Rattle.terms.specs.When.{_⇒_∣_}
 use Rattle.terms.specs.Cases.{cases}
 use Rattle.grammar.specs.Token.{Token, name, variable, opening, closing, comma, arrow, stop}
-use Rattle.grammar.specs.Syntax.{Terms, none, Formula, Rule}
+use Rattle.grammar.specs.Syntax.{Terms, none, Rule}
 use Rattle.grammar.specs.Names.{count, with-variable}
-use Rattle.grammar.specs.Reading.{Small, SmallFormula, SmallFormulas, SmallRule, SmallRules}
+use Rattle.grammar.specs.Reading.{Small, SmallFormulas, SmallRules}
 use Rattle.reading.specs.Part.{Done, none-yet, and-variable, and-name, Part, formulas, inside, Mode, between, expects, named, complete, State, state}
-use Rattle.reading.specs.Part.{terms-of, put, rule-of, Taken, taken, wrong, variable-in, comma-may, arrow-may, closed, stopped, behind, next, settle}
+use Rattle.reading.specs.Part.{terms-of, put, Taken, taken, wrong, variable-in, comma-may, arrow-may, behind, next, settle}
 use Rattle.reading.specs.Reader.{nodes, variables, size, full, crowded, limit, long}
 use Rattle.reading.specs.SizeLaws.{done-nodes-of, done-variables-of, size-of, SmallDone, small-of, put-nodes, put-variables, rule-small}
 

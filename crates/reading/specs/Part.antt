@@ -1,5 +1,5 @@
 -- A rule that is read in part: what has been read of it, and the tokens that may stand next.
-use Prim.Native.Nat.{ℕ, zero, suc, _+_}
+use Prim.Native.Nat.{ℕ}
 use mathlib.Core.Bool.{Bool, true, false}
 use mathlib.Core.List.{List, [], _∷_}
 use Rattle.terms.specs.When.{_⇒_∣_}

@@ -1,14 +1,12 @@
 -- What has been read in part, written again: the tokens read so far. A token that is taken goes behind them.
-use Prim.Native.Nat.{ℕ, zero, suc}
-use mathlib.Core.Path.{_≡_, refl, sym as inv, ap, _∙_}
-use mathlib.Core.Bool.{Bool, true, false, true≢false}
+use Prim.Native.Nat.{ℕ}
+use mathlib.Core.Path.{_≡_, refl, ap, _∙_}
 use mathlib.Core.List.{List, [], _∷_}
-use native.Mathlib.Omega.{arith}
 use Rattle.terms.specs.When.{_⇒_∣_}
 use Rattle.grammar.specs.Token.{Token, name, variable, opening, closing, comma, arrow, stop}
 use Rattle.grammar.specs.Syntax.{Terms, none, variable-then, name-then, Formula, Rule, Turn, first, later, before, arguments-then, formula-then, body-then, written}
 use Rattle.reading.specs.Part.{Done, none-yet, and-variable, and-name, Part, formulas, inside, Mode, between, expects, named, complete, State, state}
-use Rattle.reading.specs.Part.{terms-of, put, rule-of, rules-of, Taken, taken, wrong, is-opening, variable-in, filled, comma-may, arrow-may, closed, stopped, behind, next, settled, settled-mode, settle}
+use Rattle.reading.specs.Part.{terms-of, put, rule-of, rules-of, Taken, taken, wrong, variable-in, comma-may, arrow-may, closed, stopped, behind, next, settled, settled-mode, settle}
 
 abbrev pub turn : Done → Turn
 turn none-yet = first

@@ -1,5 +1,5 @@
 -- What a text is read as, token by token, or the refusal that stands first in it (document 02, C-13).
-use Prim.Native.Nat.{ℕ, zero, suc, _+_, _≤_}
+use Prim.Native.Nat.{ℕ, zero, suc, _+_}
 use mathlib.Core.Bool.{Bool, true, false, _||_}
 use mathlib.Core.List.{List, [], _∷_}
 use lib.ListN.{length}
@@ -10,7 +10,7 @@ use Rattle.grammar.specs.Token.{Token, name, variable, opening, closing, comma,
 use Rattle.grammar.specs.Front.{Front, front, broken, unexpected, front-of}
 use Rattle.grammar.specs.Syntax.{Terms, none, variable-then, name-then, Formula, Rule}
 use Rattle.grammar.specs.Names.{with-variable, book}
-use Rattle.reading.specs.Part.{Done, none-yet, and-variable, and-name, Part, formulas, inside, Mode, between, expects, named, complete, State, state, start, rules-of}
+use Rattle.reading.specs.Part.{Done, none-yet, and-variable, and-name, Part, formulas, inside, Mode, between, expects, named, complete, State, start, rules-of}
 use Rattle.reading.specs.Part.{Taken, taken, wrong, next, settle}
 
 -- Sizes of what is read in part

@@ -1,27 +1,24 @@
 -- "The accepted texts are exactly those of a grammar written without the reader, each with one reading."
-use Prim.Native.Nat.{ℕ, zero, suc, _≤_, _<_}
+use Prim.Native.Nat.{ℕ, suc, _≤_}
 use mathlib.Core.Path.{_≡_, refl, sym as inv, ap, _∙_}
 use mathlib.Core.Logic.{_↔_}
-use mathlib.Core.Bool.{Bool, true, false}
-use mathlib.Core.List.{List, [], _∷_}
+use mathlib.Core.List.{List, []}
 use native.Mathlib.Omega.{arith}
 use lib.ListN.{length}
 use lib.Dec.{ltb}
 use borrow.Author.Tests.{ltb-false, le-ltb}
-use Rattle.terms.specs.When.{_⇒_∣_}
 use Rattle.terms.specs.Cases.{cases}
-use Rattle.search.specs.Next as Next
 use Rattle.records.specs.Format.{encodeBook}
-use Rattle.grammar.specs.Token.{Spells, bytes, tokens}
-use Rattle.grammar.specs.Syntax.{Rule, written}
-use Rattle.grammar.specs.Names.{book, name-list}
-use Rattle.grammar.specs.Reading.{Sized, Writes, Reading, rules-one}
-use Rattle.reading.specs.Part.{start, state, formulas, between, rules-of}
+use Rattle.grammar.specs.Token.{bytes, tokens}
+use Rattle.grammar.specs.Syntax.{Rule}
+use Rattle.grammar.specs.Names.{book}
+use Rattle.grammar.specs.Reading.{Sized, Writes}
+use Rattle.reading.specs.Part.{start}
 use Rattle.reading.specs.Reader.{Outcome, read, refused, walk, fitting, reading}
 use Rattle.reading.specs.LimitLaws.{SmallState}
 use Rattle.reading.specs.SoundLaws.{Found, sound}
 use Rattle.reading.specs.RunLaws.{Runs, walk-runs}
-use Rattle.reading.specs.CompleteLaws.{Ends, text-run}
+use Rattle.reading.specs.CompleteLaws.{text-run}
 
 pub start-small : SmallState start
 start-small = record { rules = tt; part = (tt, omega arith); count = omega arith; named = omega arith; mode = omega arith }

@@ -1,27 +1,26 @@
 -- What each refusal says of the text (document 02, C-13).
-use Prim.Native.Nat.{ℕ, zero, suc, _+_, _≤_, _<_}
+use Prim.Native.Nat.{ℕ, suc, _+_, _≤_, _<_}
 use mathlib.Core.Path.{_≡_, refl, sym as inv, ap, _∙_}
-use mathlib.Core.Bool.{Bool, true, false, _||_}
-use mathlib.Core.List.{List, [], _∷_, _++_}
+use mathlib.Core.Bool.{true}
+use mathlib.Core.List.{List, _++_}
 use native.Mathlib.Omega.{arith}
 use lib.ListN.{length}
 use lib.Dec.{leb, ltb}
-use borrow.Author.Tests.{leb-true, leb-false, ltb-true}
-use Rattle.terms.specs.When.{_⇒_∣_}
+use borrow.Author.Tests.{leb-true, ltb-true}
 use Rattle.terms.specs.Cases.{cases}
 use Rattle.records.specs.Format.{encodeBook}
 use Rattle.grammar.specs.Token.{Token, name, variable, opening, closing, comma, arrow, stop, Piece, token, spelling, bytes, Stands, tokens}
 use Rattle.grammar.specs.Front.{front, front-of}
-use Rattle.grammar.specs.FrontLaws.{Shown, shown}
+use Rattle.grammar.specs.FrontLaws.{shown}
 use Rattle.grammar.specs.Syntax.{Rule}
 use Rattle.grammar.specs.Names.{book, with-variable}
 use Rattle.grammar.specs.Reading.{SmallRules, Writes}
-use Rattle.reading.specs.Part.{Part, formulas, inside, State, start, Taken, taken, wrong, next}
+use Rattle.reading.specs.Part.{Part, formulas, inside, State, start, taken, next}
 use Rattle.reading.specs.Reader.{nodes, variables, size, full, crowded, limit, long, Outcome, read, refused, walk, fitting, reading}
 use Rattle.reading.specs.PrintLaws.{printed}
 use Rattle.reading.specs.LimitLaws.{SmallState, Room, not-full}
 use Rattle.reading.specs.SoundLaws.{Found, sound}
-use Rattle.reading.specs.Stop.{behind-pieces, Fault, early, strange, misplaced, half-misplaced, half, long-name, too-many, Stops}
+use Rattle.reading.specs.Stop.{Fault, early, strange, misplaced, half-misplaced, half, long-name, too-many, Stops}
 use Rattle.reading.specs.StopLaws.{stops}
 use Rattle.reading.specs.Viable.{came}
 use Rattle.reading.specs.Unexpected.{Unexpected}

@@ -1,18 +1,18 @@
 -- The reader goes through a text's tokens as through its pieces.
-use Prim.Native.Nat.{ℕ, zero, suc, _+_, _≤_, _<_}
+use Prim.Native.Nat.{ℕ, zero, suc, _+_, _<_}
 use mathlib.Core.Path.{_≡_, refl, sym as inv, ap, _∙_}
-use mathlib.Core.Bool.{Bool, true, false, true≢false}
-use mathlib.Core.List.{List, [], _∷_, _++_}
+use mathlib.Core.Bool.{false, true≢false}
+use mathlib.Core.List.{List, [], _∷_}
 use native.Mathlib.Omega.{arith}
 use borrow.Author.Tests.{eqb-true, ne-eqb}
 use lib.ListN.{length, length-append}
 use Rattle.grammar.specs.Byte.{is-bracket, is-line-end, Next, Next-not}
-use Rattle.grammar.specs.Token.{Token, name, variable, opening, closing, comma, arrow, stop, Piece, token, blank, comment, spelt, bytes, Fits, Spaced, tokens}
+use Rattle.grammar.specs.Token.{Token, name, variable, opening, closing, comma, arrow, stop, Piece, token, blank, comment, spelt, bytes, Spaced, tokens}
 use Rattle.grammar.specs.TokenLaws.{front-is, fits-stays, spelt-long}
 use Rattle.grammar.specs.Front.{Front, front, front-of}
-use Rattle.grammar.specs.Syntax.{none, Rule}
-use Rattle.reading.specs.Part.{Part, Mode, between, expects, named, complete, State, state, put, rules-of, is-opening, behind, settle}
-use Rattle.reading.specs.Reader.{limit, long, Judged, going, judge-taken, judge-token, judge, Outcome, read, ended, go-on, from-front, walk}
+use Rattle.grammar.specs.Syntax.{Rule}
+use Rattle.reading.specs.Part.{Mode, between, expects, named, complete, State, state, rules-of, is-opening, settle}
+use Rattle.reading.specs.Reader.{Judged, going, judge-token, judge, read, ended, go-on, from-front, walk}
 
 -- each token is taken
 pub data Runs : State → List Token → State → Type 0 where

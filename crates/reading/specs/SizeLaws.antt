@@ -1,14 +1,14 @@
 -- Sizes of what is read in part, and of the rules that it becomes.
-use Prim.Native.Nat.{ℕ, zero, suc, _+_, _≤_, _<_}
-use mathlib.Core.Path.{_≡_, refl, sym as inv, ap, _∙_}
-use mathlib.Core.List.{List, [], _∷_, _++_}
+use Prim.Native.Nat.{ℕ, suc, _+_, _≤_}
+use mathlib.Core.Path.{_≡_, refl, ap, _∙_}
+use mathlib.Core.List.{List, [], _∷_}
 use native.Mathlib.Omega.{arith}
 use lib.ListN.{length, length-append}
 use Rattle.grammar.specs.Syntax.{Terms, none, variable-then, name-then, Formula, Rule}
 use Rattle.grammar.specs.Names.{Spot, count, spots-then, formula-spots, formulas-spots, rule-spots, with-variable, variables-after}
 use Rattle.grammar.specs.NameLaws.{variables-append}
-use Rattle.grammar.specs.Reading.{Small, SmallFormula, SmallFormulas, SmallRule, SmallRules}
-use Rattle.reading.specs.Part.{Done, none-yet, and-variable, and-name, Part, formulas, inside, terms-of, formula-of, put, rule-of, rules-of}
+use Rattle.grammar.specs.Reading.{Small, SmallFormulas, SmallRule, SmallRules}
+use Rattle.reading.specs.Part.{Done, none-yet, and-variable, and-name, Part, formulas, inside, terms-of, put, rule-of, rules-of}
 use Rattle.reading.specs.Reader.{terms-nodes, done-nodes, formulas-nodes, nodes, terms-variables, done-variables, formulas-variables, variables, size}
 
 -- Nodes and variables of trees are those of their spots

@@ -5,18 +5,18 @@ use mathlib.Core.Bool.{Bool, true, false}
 use mathlib.Core.List.{List, [], _∷_, _++_}
 use native.Mathlib.Omega.{arith}
 use lib.ListN.{length, length-append}
-use Rattle.grammar.specs.Byte.{is-blank, is-bracket, is-line-end, Next, Next-not}
-use Rattle.grammar.specs.Token.{Token, name, variable, opening, closing, comma, arrow, stop, Piece, token, blank, comment, spelling, spelt, bytes, Stands, Spaced, tokens}
-use Rattle.grammar.specs.TokenLaws.{token-long, Stays}
+use Rattle.grammar.specs.Byte.{is-bracket, Next-not}
+use Rattle.grammar.specs.Token.{Token, name, variable, opening, closing, comma, arrow, stop, Piece, token, blank, comment, spelling, spelt, bytes, Spaced, tokens}
+use Rattle.grammar.specs.TokenLaws.{token-long}
 use Rattle.grammar.specs.Front.{Front, front, broken, unexpected, front-of}
 use Rattle.grammar.specs.FrontLaws.{Bracketed, Shown, shown}
 use Rattle.grammar.specs.Syntax.{Rule, written}
 use Rattle.grammar.specs.Reading.{SmallRules}
-use Rattle.reading.specs.Part.{Part, formulas, Mode, between, expects, named, complete, State, state, rules-of, Taken, taken, wrong, next, settled, settled-mode, settle}
-use Rattle.reading.specs.Reader.{limit, long, Judged, going, bad, judge-taken, judge-token, judge, Outcome, read, refused, breaks, ended, go-on, from-front, walk}
-use Rattle.reading.specs.PrintLaws.{rules-then, before-next, printed, rules-of-then, Well, Kept, kept, settle-printed, settle-well}
+use Rattle.reading.specs.Part.{Part, Mode, between, expects, named, complete, State, state, rules-of, Taken, taken, wrong, next, settled-mode, settle}
+use Rattle.reading.specs.Reader.{limit, long, judge-taken, Outcome, read, refused, breaks, ended, go-on, from-front, walk}
+use Rattle.reading.specs.PrintLaws.{rules-then, before-next, printed, rules-of-then, Well, kept, settle-printed, settle-well}
 use Rattle.reading.specs.SizeLaws.{rules-small, rules-count}
-use Rattle.reading.specs.LimitLaws.{SmallState, SmallTaken, next-small, settle-small}
+use Rattle.reading.specs.LimitLaws.{SmallState, next-small, settle-small}
 
 -- no bracket may stand next
 abbrev pub Settled : Mode → Type 0

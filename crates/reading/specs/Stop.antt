@@ -1,14 +1,14 @@
 -- Where and why the reader stops: what stands before the place, and what is wrong there.
-use Prim.Native.Nat.{ℕ, zero, suc, _+_, _≤_, _<_}
+use Prim.Native.Nat.{ℕ, suc, _+_}
 use mathlib.Core.Path.{_≡_}
-use mathlib.Core.Bool.{Bool, true, false}
+use mathlib.Core.Bool.{true}
 use mathlib.Core.List.{List, [], _∷_, _++_}
 use lib.ListN.{length}
 use Rattle.grammar.specs.Byte.{is-bracket, Next-not}
-use Rattle.grammar.specs.Token.{Token, name, Piece, token, blank, comment, spelt, bytes, Fits}
+use Rattle.grammar.specs.Token.{Token, Piece, token, blank, comment, bytes, Fits}
 use Rattle.grammar.specs.TokenLaws.{Stays}
-use Rattle.grammar.specs.Front.{Front, front, broken, Class, nothing, class, front-of}
-use Rattle.reading.specs.Part.{Mode, between, State, Taken, taken, wrong, next, settle}
+use Rattle.grammar.specs.Front.{front, broken, nothing, class, front-of}
+use Rattle.reading.specs.Part.{between, State, Taken, taken, wrong, next, settle}
 use Rattle.reading.specs.Reader.{limit, long}
 use Rattle.reading.specs.LimitLaws.{SmallState}
 use Rattle.reading.specs.SoundLaws.{Settled}

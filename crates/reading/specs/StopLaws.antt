@@ -1,6 +1,6 @@
 -- The reader that refuses stops for a fault, which its code and its place name.
-use Prim.Native.Nat.{ℕ, zero, suc, _+_, _≤_, _<_}
-use mathlib.Core.Path.{_≡_, refl, sym as inv, ap, ap₂, _∙_}
+use Prim.Native.Nat.{ℕ, zero, suc, _+_, _<_}
+use mathlib.Core.Path.{_≡_, refl, sym as inv, ap, _∙_}
 use mathlib.Core.Bool.{Bool, true, false}
 use mathlib.Core.Logic.{_⊎_, inl, inr}
 use mathlib.Core.List.{List, [], _∷_, _++_, append-assoc}
@@ -9,16 +9,15 @@ use lib.ListN.{length, length-append}
 use lib.Dec.{eqb}
 use Rattle.terms.specs.Cases.{cases}
 use Rattle.grammar.specs.Byte.{is-bracket, Next-not}
-use Rattle.grammar.specs.Token.{Token, name, variable, opening, closing, comma, arrow, stop, Piece, token, blank, comment, spelt, bytes, Fits, after-stop}
+use Rattle.grammar.specs.Token.{Token, Piece, token, blank, comment, spelt, bytes, Fits, after-stop}
 use Rattle.grammar.specs.TokenLaws.{Stays, spelt-long}
 use Rattle.grammar.specs.Front.{Front, front, broken, unexpected, Class, a-bracket, a-name, a-variable, a-blank, a-comment, a-closing, a-comma, a-stop, an-arrow, nothing, class, cut, front-of}
-use Rattle.grammar.specs.FrontLaws.{Bracketed, Shown, shown}
-use Rattle.grammar.specs.Syntax.{Rule}
-use Rattle.reading.specs.Part.{Mode, between, expects, named, complete, State, state, Taken, taken, wrong, next, settle}
-use Rattle.reading.specs.Reader.{limit, long, Judged, going, bad, judge-taken, judge-token, judge, Outcome, read, refused, breaks, ended, go-on, from-front, walk}
-use Rattle.reading.specs.LimitLaws.{SmallState, SmallTaken, next-small, settle-small}
+use Rattle.grammar.specs.FrontLaws.{Shown, shown}
+use Rattle.reading.specs.Part.{Mode, between, expects, named, complete, State, Taken, taken, wrong, next, settle}
+use Rattle.reading.specs.Reader.{limit, long, judge-taken, Outcome, refused, breaks, ended, go-on, from-front, walk}
+use Rattle.reading.specs.LimitLaws.{SmallState, next-small, settle-small}
 use Rattle.reading.specs.SoundLaws.{Settled, settled-settled, token-shut}
-use Rattle.reading.specs.Stop.{Spaced-to, behind-piece, and-then, behind-pieces, Begun, Fault, early, strange, misplaced, half-misplaced, half, long-name, too-many, Stops}
+use Rattle.reading.specs.Stop.{Spaced-to, behind-piece, Begun, Fault, early, strange, misplaced, half-misplaced, half, long-name, too-many, Stops}
 
 abbrev Stopping : ℕ → Type 0
 Stopping k = (s : State) (at : ℕ) (rest : List ℕ) (c i : ℕ) → length rest < k → SmallState s → walk k s at rest ≡ refused c i → Stops s at rest c i

@@ -1,19 +1,15 @@
 -- "41 unexpected byte (the text's length if it ends early)": the first byte with which no text of the grammar can go on.
-use Prim.Native.Nat.{ℕ, zero, suc, _+_, _≤_, _<_}
+use Prim.Native.Nat.{ℕ, suc, _<_}
 use mathlib.Core.Path.{_≡_, refl, sym as inv, ap, ap₂, _∙_}
-use mathlib.Core.Bool.{Bool, true, false}
 use mathlib.Core.List.{List, [], _∷_, _++_, append-assoc}
 use native.Mathlib.Omega.{arith}
 use lib.ListN.{length, length-append, take}
-use lib.Seq.{take-at}
-use lib.Dec.{eqb}
-use Rattle.terms.specs.Cases.{cases}
-use Rattle.grammar.specs.Token.{Token, name, variable, opening, closing, comma, arrow, stop, Piece, token, blank, comment, spelt, bytes, after-stop, Fits, Spaced}
-use Rattle.grammar.specs.TokenLaws.{Stays, spelt-long, fits-stays, front-is}
-use Rattle.grammar.specs.Front.{Front, front, broken, unexpected, Class, a-bracket, a-name, a-variable, a-blank, a-comment, a-closing, a-comma, a-stop, an-arrow, nothing, class, cut, front-of}
+use Rattle.grammar.specs.Token.{name, variable, opening, closing, comma, arrow, stop, Piece, token, blank, comment, spelt, bytes, Spaced}
+use Rattle.grammar.specs.TokenLaws.{Stays, fits-stays, front-is}
+use Rattle.grammar.specs.Front.{front, front-of}
 use Rattle.grammar.specs.Syntax.{Rule}
 use Rattle.grammar.specs.Reading.{Writes}
-use Rattle.reading.specs.Part.{Part, Mode, between, expects, named, complete, State, state, start, Taken, taken, wrong, variable-in, inside, formulas, next}
+use Rattle.reading.specs.Part.{between, State, state, start, Taken, taken, wrong, formulas}
 use Rattle.reading.specs.Stop.{Spaced-to, behind-piece, and-then, behind-pieces}
 use Rattle.reading.specs.Viable.{Viable, first-stays}
 use Rattle.reading.specs.GoesLaws.{turned, writes-goes}

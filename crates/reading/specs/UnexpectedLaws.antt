@@ -1,24 +1,21 @@
 -- The reader's code 41 stands at the first byte with which no text of the grammar can go on.
-use Prim.Native.Nat.{ℕ, zero, suc, _+_, _≤_, _<_}
-use mathlib.Core.Path.{_≡_, refl, sym as inv, ap, ap₂, _∙_}
-use mathlib.Core.Bool.{Bool, true, false}
+use Prim.Native.Nat.{ℕ, suc, _+_}
+use mathlib.Core.Path.{_≡_, refl, sym as inv, ap, _∙_}
 use mathlib.Core.List.{List, [], _∷_, _++_, append-assoc, append-nil}
 use native.Mathlib.Omega.{arith}
 use lib.ListN.{length, length-append, take}
 use lib.Seq.{take-at}
 use lib.Dec.{eqb}
-use Rattle.terms.specs.When.{_⇒_∣_}
 use Rattle.terms.specs.Cases.{cases}
-use Rattle.grammar.specs.Byte.{is-bracket, is-blank, is-percent, is-line-end, small, capital, digit, goes-on}
-use Rattle.grammar.specs.Token.{Token, name, variable, opening, closing, comma, arrow, stop, Piece, token, blank, comment, spelt, bytes, after-stop, Fits, Spaced}
+use Rattle.grammar.specs.Byte.{goes-on}
+use Rattle.grammar.specs.Token.{Token, name, variable, opening, closing, comma, arrow, stop, Piece, token, blank, comment, bytes, after-stop, Fits, Spaced}
 use Rattle.grammar.specs.TokenLaws.{Stays, pieces-are}
-use Rattle.grammar.specs.Front.{Front, front, broken, unexpected, Class, a-bracket, a-name, a-variable, a-blank, a-comment, a-closing, a-comma, a-stop, an-arrow, nothing, class, cut, front-of, stop-at, arrow-at, pieces-of, run}
-use Rattle.grammar.specs.FrontLaws.{Half, Shown, shown}
+use Rattle.grammar.specs.Front.{front, broken, unexpected, Class, a-bracket, a-name, a-variable, a-blank, a-comment, a-closing, a-comma, a-stop, an-arrow, nothing, class, cut, front-of, stop-at, arrow-at, pieces-of, run}
+use Rattle.grammar.specs.FrontLaws.{shown}
 use Rattle.grammar.specs.Syntax.{Rule}
 use Rattle.grammar.specs.Reading.{Writes}
-use Rattle.reading.specs.Part.{Part, Mode, between, expects, named, complete, State, state, start, Taken, taken, wrong, variable-in, inside, formulas, next}
-use Rattle.reading.specs.Reader.{limit}
-use Rattle.reading.specs.Stop.{Spaced-to, behind-piece, and-then, behind-pieces, Fault, early, strange, misplaced, half-misplaced, half, long-name, too-many, Stops}
+use Rattle.reading.specs.Part.{Part, Mode, between, expects, named, complete, State, state, start, taken, wrong, inside, formulas, next}
+use Rattle.reading.specs.Stop.{Spaced-to, behind-piece, behind-pieces}
 use Rattle.reading.specs.Viable.{Viable, Came, came, viable-here, viable-half}
 use Rattle.reading.specs.GoesLaws.{turned, writes-goes}
 use Rattle.reading.specs.Unexpected.{Unexpected, too-early, no-further, Goes-on, going-on}
