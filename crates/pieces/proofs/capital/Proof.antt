@@ -1,7 +1,6 @@
 -- `pieces::capital` meets its contract. Assumes nothing.
 use Rattle.grammar.specs.Byte.{capital}
 use borrow.Author.Tests.{le-leb, lt-leb, eq-eqb, ne-eqb}
-use borrow.Author.Needs.{needs}
 use Rattle.pieces.proofs.capital.Statement.{statement}
 use Rattle.pieces.proofs.capital.Tie as tie
 

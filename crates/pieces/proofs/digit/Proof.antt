@@ -1,7 +1,6 @@
 -- `pieces::digit` meets its contract. Assumes nothing.
 use Rattle.grammar.specs.Byte.{digit}
 use borrow.Author.Tests.{le-leb, lt-leb, eq-eqb, ne-eqb}
-use borrow.Author.Needs.{needs}
 use Rattle.pieces.proofs.digit.Statement.{statement}
 use Rattle.pieces.proofs.digit.Tie as tie
 

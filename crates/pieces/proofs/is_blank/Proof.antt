@@ -2,7 +2,6 @@
 use Rattle.pieces.proofs.Bytes.{last-blank}
 use borrow.Author.Tests.{eq-eqb, ne-eqb}
 use Rattle.grammar.specs.Byte.{is-blank}
-use borrow.Author.Needs.{needs}
 use Rattle.pieces.proofs.is_blank.Statement.{statement}
 use Rattle.pieces.proofs.is_blank.Tie as tie
 

@@ -1,7 +1,6 @@
 -- `pieces::small` meets its contract. Assumes nothing.
 use Rattle.grammar.specs.Byte.{small}
 use borrow.Author.Tests.{le-leb, lt-leb, eq-eqb, ne-eqb}
-use borrow.Author.Needs.{needs}
 use Rattle.pieces.proofs.small.Statement.{statement}
 use Rattle.pieces.proofs.small.Tie as tie
 
