@@ -1,6 +1,6 @@
--- A book that is read from a text is good (records, Format), so that its check answers 0.
+-- A book, or a goal, that is read from a text is good (records, Format), so that a book's check answers 0.
 use Prim.Native.Nat.{ℕ, zero, suc, _+_, _≤_, _<_}
-use mathlib.Core.Path.{_≡_, refl, sym as inv, ap, _∙_}
+use mathlib.Core.Path.{_≡_, refl, ap, _∙_}
 use mathlib.Core.List.{List, [], _∷_, map}
 use native.Mathlib.Omega.{arith}
 use lib.ListN.{length, length-append}
@@ -13,7 +13,7 @@ use Rattle.words.specs.PackLaws.{words-length}
 use Rattle.records.specs.Words.{bookWords}
 use Rattle.records.specs.Reading.{bookVerdict}
 use Rattle.records.specs.Format as Format
-use Rattle.records.specs.Format.{terms-none, terms-var, terms-constant, terms-compound, formula, IsFormula, AreFormulas, GoodClause, GoodClauses, GoodBook, encodeBook}
+use Rattle.records.specs.Format.{terms-none, terms-var, terms-constant, terms-compound, formula, IsFormula, AreFormulas, Fitting, GoodClause, GoodClauses, GoodBook, GoodGoal, encodeBook}
 use Rattle.records.proofs.Lengths.{words-few}
 use Rattle.records.proofs.Numbering as Numbering
 use Rattle.records.proofs.Meaning.{good, book-written}
@@ -21,6 +21,7 @@ use Rattle.grammar.specs.Syntax.{Terms, none, variable-then, name-then, 
 use Rattle.grammar.specs.Names.{Sort, Constant, Compound, Predicate, Spot, count, called, spots-then, formula-spots, formulas-spots, rule-spots, text-spots}
 use Rattle.grammar.specs.Names.{place, variable-number, with-variable, variables-after, symbol-of, numbered, numbered-all, clause, names, book}
 use Rattle.grammar.specs.NameLaws.{place-low, variable-low, with-one, variables-few, names-few, numbered-length, flat-numbered, numbered-below, numbered-ordered}
+use Rattle.grammar.specs.Query.{Given, names-with, goal, SizedQuery}
 use Rattle.grammar.specs.Reading.{Small, SmallFormula, SmallFormulas, SmallRule, SmallRules, Sized, Reading}
 
 -- Every symbol's number is below 65,536
@@ -39,7 +40,7 @@ names-low cs h k = omega (arith, words-few (book cs), book-spots (names cs) cs, 
 
 -- Formulas
 
-module _ (table : Sort → List (List ℕ)) (low : (k : Sort) → length (table k) < 65536) where
+module _ (table : Sort → List (List ℕ)) (low : (k : Sort) → length (table k) < 65536) (most : ℕ) (bound : most < 65536) where
   number-low : (k : Sort) (w : List ℕ) → place w (table k) < 65536
   number-low k w = omega (arith, place-low w (table k), low k)
 
@@ -47,9 +48,9 @@ module _ (table : Sort → List (List ℕ)) (low : (k : Sort) → length (table 
   symbol-good zero m w e h t = terms-constant (number-low Constant w) (rw (let q : m + 0 ≡ m = omega arith in q) at t)
   symbol-good (suc a) m w e h t = terms-compound (number-low Compound w) (let q : 1 ≤ suc a = omega arith in q) h t
 
-  -- what is numbered in at most 256 spots, those seen counted
+  -- what is numbered in at most so many spots, those seen counted
   abbrev Good : ℕ → List Spot → Type 0
-  Good n r = (seen : List (List ℕ)) → length seen + length r ≤ 256 → Format.Terms n (numbered table seen r)
+  Good n r = (seen : List (List ℕ)) → length seen + length r ≤ most → Format.Terms n (numbered table seen r)
 
   terms-good : (ts : Terms) (n : ℕ) (r : List Spot) → Small ts → Good n r → Good (n + count ts) (spots-then ts r)
   terms-good none n r s g seen h = rw (let q : n + 0 ≡ n = omega arith in q) (g seen h)
@@ -61,12 +62,12 @@ module _ (table : Sort → List (List ℕ)) (low : (k : Sort) → length (table 
       (symbol-good (count own) (n + count ts) w _ (s .1)
       (terms-good own (n + count ts) (spots-then ts r) (s .2) (terms-good ts n r (s .3) g) seen (omega arith)))
 
-  formula-good : (f : Formula) → SmallFormula f → (seen : List (List ℕ)) → length seen + length (formula-spots f) ≤ 256 → IsFormula (numbered table seen (formula-spots f))
+  formula-good : (f : Formula) → SmallFormula f → (seen : List (List ℕ)) → length seen + length (formula-spots f) ≤ most → IsFormula (numbered table seen (formula-spots f))
   formula-good f s seen h =
       formula (number-low Predicate (f .symbol)) (s .few)
       (rw (let q : 0 + count (f .arguments) ≡ count (f .arguments) = omega arith in q) at (terms-good (f .arguments) 0 [] (s .small) (λ seen h. terms-none) seen (omega arith)))
 
-  formulas-good : (fs : List Formula) → SmallFormulas fs → (seen : List (List ℕ)) → length seen + length (formulas-spots fs) ≤ 256 → AreFormulas (numbered-all table seen fs)
+  formulas-good : (fs : List Formula) → SmallFormulas fs → (seen : List (List ℕ)) → length seen + length (formulas-spots fs) ≤ most → AreFormulas (numbered-all table seen fs)
   formulas-good [] s seen h = tt
   formulas-good (f ∷ fs) s seen h =
       let l = length-append (formula-spots f) (formulas-spots fs) in (
@@ -74,25 +75,30 @@ module _ (table : Sort → List (List ℕ)) (low : (k : Sort) → length (table 
         formulas-good fs (s .1) (variables-after seen (formula-spots f)) (omega (arith, variables-few seen (formula-spots f))),
       )
 
-  -- Clauses
+formulas-length : (table : Sort → List (List ℕ)) (seen : List (List ℕ)) (fs : List Formula) → length (numbered-all table seen fs) ≡ length fs
+formulas-length table seen [] = refl
+formulas-length table seen (f ∷ fs) = ap suc (formulas-length table (variables-after seen (formula-spots f)) fs)
 
-  body-length : (seen : List (List ℕ)) (fs : List Formula) → length (numbered-all table seen fs) ≡ length fs
-  body-length seen [] = refl
-  body-length seen (f ∷ fs) = ap suc (body-length (variables-after seen (formula-spots f)) fs)
+-- so many nodes and variables at most, numbered by first appearance
+formulas-fitting : (table : Sort → List (List ℕ)) (fs : List Formula) (most variables : ℕ) → length (formulas-spots fs) ≤ most → length (variables-after [] (formulas-spots fs)) ≤ variables →
+    Fitting most variables (numbered-all table [] fs)
+formulas-fitting table fs most variables h k =
+    let e = flat-numbered table [] fs in
+    record {
+      size = omega (arith, flat-size (numbered-all table [] fs), ap length e, numbered-length table [] (formulas-spots fs), h);
+      below = rw e (numbered-below table variables [] (formulas-spots fs) k);
+      numbered = Numbering.numbered (numbered-all table [] fs) (rw e (numbered-ordered table [] (formulas-spots fs)));
+    }
 
+-- Books
+
+module _ (table : Sort → List (List ℕ)) (low : (k : Sort) → length (table k) < 65536) where
   rule-good : (c : Rule) → SmallRule c → GoodClause (clause table c)
   rule-good c s =
-      let fs = c .head ∷ c .body in
-      let e = flat-numbered table [] fs in
       record {
-        few = rw (body-length (variables-after [] (formula-spots (c .head))) (c .body)) (s .few);
-        formulas = formulas-good fs (s .formulas) [] (omega (arith, s .nodes));
-        fitting =
-            record {
-              size = omega (arith, inv (flat-size (numbered-all table [] fs)), clause-spots table c, s .nodes);
-              below = rw e (numbered-below table 64 [] (formulas-spots fs) (s .variables));
-              numbered = Numbering.numbered (numbered-all table [] fs) (rw e (numbered-ordered table [] (formulas-spots fs)));
-            };
+        few = rw (formulas-length table (variables-after [] (formula-spots (c .head))) (c .body)) (s .few);
+        formulas = formulas-good table low 256 (omega arith) (c .head ∷ c .body) (s .formulas) [] (omega (arith, s .nodes));
+        fitting = formulas-fitting table (c .head ∷ c .body) 256 64 (s .nodes) (s .variables);
       }
 
   rules-good : (cs : List Rule) → SmallRules cs → GoodClauses (map (clause table) cs)
@@ -113,3 +119,15 @@ reading-good r = rw (r .book-is) (sized-good (r .rules) (r .sized))
 -- its check answers 0
 pub reading-checked : {text list : List ℕ} {b : Next.Book} → Reading text b list → bookVerdict (encodeBook b) ≡ good (length b)
 reading-checked {b = b} r = book-written b (reading-good r)
+
+-- Queries: a goal that is read is good, where the numbers of the list's names and of the new ones fit into two bytes
+
+pub query-good : (given : Given) (fs : List Formula) → SizedQuery fs → ((k : Sort) → length (given k) ≤ 61439) → GoodGoal (goal given fs)
+query-good given fs s low =
+    let table = names-with given fs in
+    let fits : (k : Sort) → length (table k) < 65536 = λ k. omega (arith, names-few k (given k) (formulas-spots fs), low k, s .nodes) in
+    record {
+      few = rw (formulas-length table [] fs) (s .few);
+      formulas = formulas-good table fits 4096 (omega arith) fs (s .formulas) [] (omega (arith, s .nodes));
+      fitting = formulas-fitting table fs 4096 65536 (s .nodes) (omega (arith, variables-few [] (formulas-spots fs), s .nodes));
+    }

@@ -1,19 +1,35 @@
 -- Names and variables by first appearance: how far the numbers go, and that the variables of a clause are numbered as document 01 wants them.
 use Prim.Native.Nat.{ℕ, suc, _+_, _≤_, _<_}
-use mathlib.Core.Path.{_≡_, refl, sym as inv, ap, _∙_}
+use mathlib.Core.Path.{_≡_, refl, sym as inv, ap, _∙_, ap₂}
 use mathlib.Core.Bool.{true, false}
 use mathlib.Core.List.{List, [], _∷_, _++_}
 use native.Mathlib.Omega.{arith}
+use borrow.Author.Tests.{eqb-true, eq-eqb}
+use lib.Dec.{eqb}
 use lib.ListN.{length, length-append}
 use Rattle.terms.specs.Node.{Expr}
 use Rattle.terms.specs.Cases.{cases}
 use Rattle.words.specs.Flat.{flat}
 use Rattle.records.specs.Reading.{nextUnused}
 use Rattle.records.specs.Format.{Below}
-use Rattle.records.proofs.Numbering.{Ordered, next-same, next-other}
+use Rattle.records.proofs.Numbering.{Ordered, unused-same, unused-other}
 use Rattle.grammar.specs.Syntax.{Formula}
 use Rattle.grammar.specs.Names.{Sort, Spot, variable-spot, symbol-spot, formula-spots, formulas-spots, same-name, place, within, grow, is-sort, names-after}
 use Rattle.grammar.specs.Names.{lone, variable-number, with-variable, variables-after, numbered, numbered-all}
+
+-- Names are compared byte by byte
+
+pub same-refl : (w : List ℕ) → same-name w w ≡ true
+same-refl [] = refl
+same-refl (b ∷ w) = rw (eq-eqb b b refl) (same-refl w)
+
+pub same-true : (v w : List ℕ) → same-name v w ≡ true → v ≡ w
+same-true [] [] e = refl
+same-true [] (b ∷ w) e = let z : _≡_ {A = ℕ} 0 1 = cc in absurd (omega arith)
+same-true (a ∷ v) [] e = let z : _≡_ {A = ℕ} 0 1 = cc in absurd (omega arith)
+same-true (a ∷ v) (b ∷ w) e =
+    cases (eqb a b) (λ h. ap₂ _∷_ (eqb-true a b h) (same-true v w (rw h at e)))
+    (λ h. let q : false ≡ true = rw h at e in let z : _≡_ {A = ℕ} 0 1 = cc in absurd (omega arith))
 
 -- Places
 
@@ -73,8 +89,8 @@ next-with : (seen : List (List ℕ)) (w : List ℕ) → nextUnused (length seen)
 next-with seen w = next (numbers seen w)
   where
     next : Numbers seen w → nextUnused (length seen) (variable-number seen w) ≡ length (with-variable seen w)
-    next (fresh p q) = next-same (length seen) (variable-number seen w) p ∙ inv q
-    next (known p q) = next-other (length seen) (variable-number seen w) (λ (e : variable-number seen w ≡ length seen). omega arith) ∙ inv q
+    next (fresh p q) = unused-same (length seen) (variable-number seen w) p ∙ inv q
+    next (known p q) = unused-other (length seen) (variable-number seen w) (λ (e : variable-number seen w ≡ length seen). omega arith) ∙ inv q
 
 pub variables-more : (seen : List (List ℕ)) (e : List Spot) → length seen ≤ length (variables-after seen e)
 variables-more seen [] = omega arith

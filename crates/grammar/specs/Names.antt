@@ -146,5 +146,8 @@ abbrev pub entries : Sort → ℕ → List (List ℕ) → List ℕ
 entries k n [] = []
 entries k n (w ∷ l) = (kind k ∷ n / 256 ∷ n % 256 ∷ length w ∷ w) ++ entries k (suc n) l
 
+abbrev pub list-of : (Sort → List (List ℕ)) → List ℕ
+list-of table = entries Constant 0 (table Constant) ++ (entries Compound 0 (table Compound) ++ entries Predicate 0 (table Predicate))
+
 abbrev pub name-list : List Rule → List ℕ
-name-list cs = entries Constant 0 (names cs Constant) ++ entries Compound 0 (names cs Compound) ++ entries Predicate 0 (names cs Predicate)
+name-list cs = list-of (names cs)

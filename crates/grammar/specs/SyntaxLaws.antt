@@ -7,7 +7,7 @@ use native.Mathlib.Omega.{arith}
 use Rattle.grammar.specs.Token.{Token, name, variable, opening, closing, comma, arrow, stop}
 use Rattle.grammar.specs.Syntax.{Terms, none, variable-then, name-then, Formula, Rule, Turn, first, later, before, arguments-then, formula-then, body-then, written}
 
-abbrev is-opening : Token → Bool
+abbrev pub is-opening : Token → Bool
 is-opening (name w) = false
 is-opening (variable w) = false
 is-opening opening = true
@@ -17,7 +17,7 @@ is-opening arrow = false
 is-opening stop = false
 
 -- what stands behind a formula or a term begins with no bracket
-abbrev Shut : List Token → Type 0
+abbrev pub Shut : List Token → Type 0
 Shut [] = Unit {0}
 Shut (t ∷ r) = is-opening t ≡ false
 
@@ -50,7 +50,7 @@ arguments-one k (name-then w own ts) (name-then v its us) r s p q e =
     let x : w ≡ v = cc in
     (cc (x, g .0, h .0), h .1)
 
-formula-one : (f g : Formula) (r s : List Token) → Shut r → Shut s → formula-then f r ≡ formula-then g s → (f ≡ g) × (r ≡ s)
+pub formula-one : (f g : Formula) (r s : List Token) → Shut r → Shut s → formula-then f r ≡ formula-then g s → (f ≡ g) × (r ≡ s)
 formula-one f g r s p q e =
     let h = arguments-one first (f .arguments) (g .arguments) r s p q (cc) in
     let x : f .symbol ≡ g .symbol = cc in

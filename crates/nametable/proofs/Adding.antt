@@ -11,9 +11,9 @@ use lib.ListN.{length, getD, set, length-append, List·getD-append}
 use lib.Seq.{getD-set-same, getD-set-other, getD-at}
 use Rattle.terms.specs.When.{_⇒_∣_}
 use Rattle.terms.specs.Cases.{cases}
+use Rattle.grammar.specs.NameLaws.{same-refl}
 use Rattle.grammar.specs.Names.{same-name, place}
 use Rattle.nametable.specs.Table.{word, hash, latest, Entries, Chains}
-use Rattle.nametable.proofs.Chain.{same-refl}
 
 place-before : (w : List ℕ) (l : List (List ℕ)) (i : ℕ) → i < length l → getD l i [] ≡ w → place w l ≤ i
 place-before w [] i h e = absurd (omega arith)

@@ -5,27 +5,16 @@ use mathlib.Core.Bool.{Bool, true, false}
 use mathlib.Core.List.{List, [], _∷_}
 use native.Mathlib.Omega.{arith}
 use native.Mathlib.Decide.{decLt}
-use borrow.Author.Tests.{eqb-true, eqb-false, eq-eqb}
+use borrow.Author.Tests.{eqb-true, eqb-false}
 use lib.Dec.{eqb}
 use lib.ListN.{length, getD, drop, length-drop}
 use lib.Seq.{length-take-le}
 use Rattle.terms.specs.Cases.{cases}
+use Rattle.grammar.specs.NameLaws.{same-true, same-refl}
 use Rattle.grammar.specs.Names.{same-name, place}
 use Rattle.nametable.specs.Table.{word, hash, latest, Entries, Table}
 
--- Names are compared byte by byte
-
-pub same-true : (v w : List ℕ) → same-name v w ≡ true → v ≡ w
-same-true [] [] e = refl
-same-true [] (b ∷ w) e = let z : _≡_ {A = ℕ} 0 1 = cc in absurd (omega arith)
-same-true (a ∷ v) [] e = let z : _≡_ {A = ℕ} 0 1 = cc in absurd (omega arith)
-same-true (a ∷ v) (b ∷ w) e =
-    cases (eqb a b) (λ h. ap₂ _∷_ (eqb-true a b h) (same-true v w (rw h at e)))
-    (λ h. let q : false ≡ true = rw h at e in let z : _≡_ {A = ℕ} 0 1 = cc in absurd (omega arith))
-
-pub same-refl : (w : List ℕ) → same-name w w ≡ true
-same-refl [] = refl
-same-refl (b ∷ w) = rw (eq-eqb b b refl) (same-refl w)
+-- Names of different lengths
 
 word-length : (s : List ℕ) (at len : ℕ) → at + len ≤ length s → length (word s at len) ≡ len
 word-length s at len h = length-take-le len (drop at s) (omega (arith, length-drop at s))
