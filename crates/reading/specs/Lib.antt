@@ -25,4 +25,6 @@ pub mod GoesLaws
 pub mod Unexpected
 pub mod UnexpectedLaws
 pub mod Refusal
+-- The nodes of what is read in part.
+pub mod Draft
 pub mod Examples
