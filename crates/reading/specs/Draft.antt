@@ -6,10 +6,10 @@ use mathlib.Core.Bool.{true}
 use mathlib.Core.List.{List, [], _∷_, _++_, append-assoc, append-nil}
 use native.Mathlib.Omega.{arith}
 use lib.ListN.{length, length-append}
-use Rattle.grammar.specs.Syntax.{Terms, none, variable-then, name-then, Formula, Rule}
+use Rattle.grammar.specs.Syntax.{Terms, none, variable-then, name-then, Formula}
 use Rattle.grammar.specs.Names.{Sort, Constant, Compound, Predicate, Spot, variable-spot, symbol-spot, count, called, spots-then, formula-spots, formulas-spots, rule-spots}
 use Rattle.reading.specs.Part.{Done, none-yet, and-variable, and-name, Part, formulas, inside, filled, terms-of, formula-of, put, rule-of}
-use Rattle.reading.specs.Reader.{terms-nodes, done-nodes, formulas-nodes, nodes, size}
+use Rattle.reading.specs.Reader.{done-nodes, formulas-nodes, nodes, size}
 use Rattle.reading.specs.SizeLaws.{size-of, nodes-spots}
 
 abbrev pub done-spots : Done → List Spot → List Spot

@@ -1,6 +1,6 @@
 -- What each refusal says of the text (document 02, C-13).
 use Prim.Native.Nat.{ℕ, suc, _+_, _≤_, _<_}
-use mathlib.Core.Path.{_≡_, refl, sym as inv, ap, _∙_}
+use mathlib.Core.Path.{_≡_, refl, sym as inv}
 use mathlib.Core.Bool.{true}
 use mathlib.Core.List.{List, _++_}
 use native.Mathlib.Omega.{arith}
@@ -27,15 +27,21 @@ use Rattle.reading.specs.Unexpected.{Unexpected}
 use Rattle.reading.specs.UnexpectedLaws.{strange-means, misplaced-means, half-misplaced-means, half-means, early-means}
 use Rattle.reading.specs.ReadingLaws.{start-small}
 
--- A token at a place with which a text of the grammar can go on: before it stand tokens of whole rules and of a part of the next, all within the sizes
-pub record Reached (text : List ℕ) (at : ℕ) (s : State) (t : Token) : Type 0 where
+-- The bytes before a place are pieces whose tokens are those of whole rules and of a part of the next, all within the sizes: no other refusal stands there.
+pub record Before (text : List ℕ) (at : ℕ) (s : State) : Type 0 where
   pub pieces : List Piece
-  pub rest : List ℕ
-  pub whole : text ≡ bytes pieces ++ (spelling t ++ rest)
-  pub stands : Stands t rest
+  pub left : List ℕ
+  pub whole : text ≡ bytes pieces ++ left
   pub place : at ≡ length (bytes pieces)
   pub makes : (r : List Token) → tokens pieces ++ r ≡ printed s r
   pub small : SmallState s
+
+-- A token at a place with which a text of the grammar can go on
+pub record Reached (text : List ℕ) (at : ℕ) (s : State) (t : Token) : Type 0 where
+  pub before : Before text at s
+  pub rest : List ℕ
+  pub token-there : before .left ≡ spelling t ++ rest
+  pub stands : Stands t rest
   pub goes : State
   pub takes : next (s .rules) (s .part) (s .mode) t ≡ taken goes
 
@@ -52,7 +58,8 @@ pub data Passed (s : State) : Token → Type 0 where
 
 pub data Refusal (text : List ℕ) : ℕ → ℕ → Type 0 where
   long-text : 65536 < length text → Refusal text 40 0
-  unexpected-byte : {i : ℕ} → Unexpected text i → Refusal text 41 i
+  unexpected-byte : {at : ℕ} {s : State} → Before text at s → Unexpected text at → Refusal text 41 at
+  unexpected-second : {at : ℕ} {s : State} → Before text at s → Unexpected text (at + 1) → Refusal text 41 (at + 1)
   longest-name : {at : ℕ} {s : State} {w : List ℕ} → Reached text at s (name w) → 33 ≤ length w → Refusal text 42 (at + 32)
   out-of-range : {at : ℕ} {s : State} {t : Token} → Reached text at s t → Ninth (s .part) → Refusal text 4 at
   size-passed : {at : ℕ} {s : State} {t : Token} → Reached text at s t → Room (s .part) → Passed s t → Refusal text 5 at
@@ -105,21 +112,22 @@ limits s stop = by-none
 -- The reader
 
 module _ (text : List ℕ) (c i : ℕ) (st : Stops start 0 text c i) where
+  abbrev before : Before text (length (bytes (st .pieces))) (st .to)
+  before =
+      record {
+        pieces = st .pieces;
+        left = st .left;
+        whole = st .whole;
+        place = refl;
+        makes = came (st .pieces) start (st .to) refl (st .reaches) .makes;
+        small = st .small;
+      }
+
   reached : {t : Token} {r : List ℕ} {n : State} → front-of (st .left) ≡ front (token t) r → next (st .to .rules) (st .to .part) (st .to .mode) t ≡ taken n →
       Reached text (length (bytes (st .pieces))) (st .to) t
   reached {t} {r} {n} f k =
       let h = rw f at (shown (st .left)) in
-      record {
-        pieces = st .pieces;
-        rest = r;
-        whole = st .whole ∙ ap (λ (l : List ℕ). bytes (st .pieces) ++ l) (h .0);
-        stands = h .1;
-        place = refl;
-        makes = came (st .pieces) start (st .to) refl (st .reaches) .makes;
-        small = st .small;
-        goes = n;
-        takes = k;
-      }
+      record { before = before; rest = r; token-there = h .0; stands = h .1; goes = n; takes = k }
 
   limit-refusal : {t : Token} (m : ℕ) → Reached text (length (bytes (st .pieces))) (st .to) t → Limits (st .to) t m → (k : ℕ) → m ≡ suc k → Refusal text m (length (bytes (st .pieces)))
   limit-refusal m r (by-range h) k e = out-of-range r h
@@ -127,14 +135,14 @@ module _ (text : List ℕ) (c i : ℕ) (st : Stops start 0 text c i) where
   limit-refusal m r by-none k e = absurd (omega arith)
 
   fault-refusal : (a k j : ℕ) → a ≡ length (bytes (st .pieces)) → Fault (st .to) a (st .left) k j → Refusal text k j
-  fault-refusal a k j e (early l b) = rw e (unexpected-byte (early-means text (st .left) (st .pieces) (st .to) (st .whole) (st .spaced) (st .reaches) l b))
-  fault-refusal a k j e (strange {b} {x} l q) = rw e (unexpected-byte (strange-means text (st .left) (st .pieces) (st .to) (st .whole) (st .spaced) (st .reaches) b x l q))
+  fault-refusal a k j e (early l b) = rw e (unexpected-byte before (early-means text (st .left) (st .pieces) (st .to) (st .whole) (st .spaced) (st .reaches) l b))
+  fault-refusal a k j e (strange {b} {x} l q) = rw e (unexpected-byte before (strange-means text (st .left) (st .pieces) (st .to) (st .whole) (st .spaced) (st .reaches) b x l q))
   fault-refusal a k j e (misplaced {b} {x} {r} {t} l f w) =
-      rw e (unexpected-byte (misplaced-means text (st .left) (st .pieces) (st .to) (st .whole) (st .spaced) (st .reaches) b x r t l f w))
+      rw e (unexpected-byte before (misplaced-means text (st .left) (st .pieces) (st .to) (st .whole) (st .spaced) (st .reaches) b x r t l f w))
   fault-refusal a k j e (half-misplaced {b} {x} {t} l f w) =
-      rw e (unexpected-byte (half-misplaced-means text (st .left) (st .pieces) (st .to) (st .whole) (st .spaced) (st .reaches) b x t l f w))
+      rw e (unexpected-byte before (half-misplaced-means text (st .left) (st .pieces) (st .to) (st .whole) (st .spaced) (st .reaches) b x t l f w))
   fault-refusal a k j e (half {b} {x} {t} {n} l f w) =
-      rw e (unexpected-byte (half-means text (st .left) (st .pieces) (st .to) (st .whole) (st .spaced) (st .reaches) b x t n l f w))
+      rw e (unexpected-second before (half-means text (st .left) (st .pieces) (st .to) (st .whole) (st .spaced) (st .reaches) b x t n l f w))
   fault-refusal a k j e (long-name {t} {r} {n} f w m l) = let q = long-means t l in rw e (longest-name (rw (q .1) at (reached f w)) (q .2))
   fault-refusal a k j e (too-many {t} {r} {n} {c = d} f w m) = rw e (rw m at (limit-refusal (limit (st .to .rules) (st .to .part) t) (reached f w) (limits (st .to) t) d m))
 
