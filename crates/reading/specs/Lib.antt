@@ -23,6 +23,7 @@ pub mod Whole
 pub mod Viable
 pub mod GoesLaws
 pub mod Unexpected
+pub mod FirstLaws
 pub mod UnexpectedLaws
 pub mod Refusal
 -- The nodes of what is read in part.
