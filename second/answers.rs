@@ -4,8 +4,8 @@ use crate::item::{Case, Entry, Item};
 use crate::period;
 use crate::read::{self, Refusal};
 
-/// The sum that `try_entries` makes of an area.
-fn sum(bytes: &[u8]) -> u64 {
+/// The sum that `try_entries` makes of bytes.
+pub fn sum(bytes: &[u8]) -> u64 {
     bytes.iter().fold(1, |s, b| (s * 0x100_0193 + *b as u64) % 0x8000_0000)
 }
 

@@ -6,6 +6,7 @@
 //   second item N              reads a stream, and shows its N-th item, from 1
 //   second table               holds the documents' cases to the results that the documents give, and others to results worked out by hand
 //   second trace               reads what the program `trace` reads, and prints what it prints
+//   second read              reads rules as text (document 02, C-13), and prints code, place, bytes of the book and of the names, and a sum over each
 //   second pack N              reads a book and a query in document 01's notation, and writes them with budget N as `trace` reads them
 mod answers;
 mod build;
@@ -29,6 +30,7 @@ mod rooms;
 mod stream;
 mod stuck;
 mod table;
+mod text;
 mod tree;
 mod unify;
 mod unknown;
@@ -101,6 +103,13 @@ fn pack(text: &str, budget: u32) -> Result<Vec<u8>, String> {
     Ok([&budget.to_be_bytes()[..], &(book.len() as u32).to_be_bytes(), &book, &query].concat())
 }
 
+fn text(bytes: &[u8]) -> String {
+    match text::read(bytes) {
+        Ok(read) => format!("0 0 {} {} {} {}", read.book.len(), read.names.len(), answers::sum(&read.book), answers::sum(&read.names)),
+        Err(text::Refusal(code, place)) => format!("{code} {place} 0 0 {} {}", answers::sum(&[]), answers::sum(&[])),
+    }
+}
+
 fn input() -> Vec<u8> {
     let mut bytes = Vec::new();
     std::io::stdin().read_to_end(&mut bytes).expect("standard input");
@@ -129,8 +138,9 @@ fn chosen() -> Done {
         ["item", n] => show(&input(), n),
         ["table"] => table(),
         ["trace"] => Ok(println!("{}", trace(&input()))),
+        ["read"] => Ok(println!("{}", text(&input()))),
         ["pack", budget] => packed(budget),
-        _ => Err("second stream SEED COUNT | stored | answers | item N | table | trace | pack BUDGET".to_string()),
+        _ => Err("second stream SEED COUNT | stored | answers | item N | table | trace | read | pack BUDGET".to_string()),
     }
 }
 
