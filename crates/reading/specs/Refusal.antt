@@ -2,7 +2,7 @@
 use Prim.Native.Nat.{ℕ, suc, _+_, _≤_, _<_}
 use mathlib.Core.Path.{_≡_, refl, sym as inv}
 use mathlib.Core.Bool.{true}
-use mathlib.Core.List.{List, _++_}
+use mathlib.Core.List.{List, _∷_, _++_}
 use native.Mathlib.Omega.{arith}
 use lib.ListN.{length}
 use lib.Dec.{leb, ltb}
@@ -10,8 +10,8 @@ use borrow.Author.Tests.{leb-true, ltb-true}
 use Rattle.terms.specs.Cases.{cases}
 use Rattle.records.specs.Format.{encodeBook}
 use Rattle.grammar.specs.Token.{Token, name, variable, opening, closing, comma, arrow, stop, Piece, token, spelling, bytes, Stands, tokens}
-use Rattle.grammar.specs.Front.{front, front-of}
-use Rattle.grammar.specs.FrontLaws.{shown}
+use Rattle.grammar.specs.Front.{front, broken, front-of}
+use Rattle.grammar.specs.FrontLaws.{Half, shown}
 use Rattle.grammar.specs.Syntax.{Rule}
 use Rattle.grammar.specs.Names.{book, with-variable}
 use Rattle.grammar.specs.Reading.{SmallRules, Writes}
@@ -59,7 +59,8 @@ pub data Passed (s : State) : Token → Type 0 where
 pub data Refusal (text : List ℕ) : ℕ → ℕ → Type 0 where
   long-text : 65536 < length text → Refusal text 40 0
   unexpected-byte : {at : ℕ} {s : State} → Before text at s → Unexpected text at → Refusal text 41 at
-  unexpected-second : {at : ℕ} {s : State} → Before text at s → Unexpected text (at + 1) → Refusal text 41 (at + 1)
+  unexpected-second : {at : ℕ} {s n : State} (t : Token) (b : Before text at s) → Half t (b .left) → next (s .rules) (s .part) (s .mode) t ≡ taken n → Unexpected text (at + 1) →
+      Refusal text 41 (at + 1)
   longest-name : {at : ℕ} {s : State} {w : List ℕ} → Reached text at s (name w) → 33 ≤ length w → Refusal text 42 (at + 32)
   out-of-range : {at : ℕ} {s : State} {t : Token} → Reached text at s t → Ninth (s .part) → Refusal text 4 at
   size-passed : {at : ℕ} {s : State} {t : Token} → Reached text at s t → Room (s .part) → Passed s t → Refusal text 5 at
@@ -134,6 +135,9 @@ module _ (text : List ℕ) (c i : ℕ) (st : Stops start 0 text c i) where
   limit-refusal m r (by-size h p) k e = size-passed r h p
   limit-refusal m r by-none k e = absurd (omega arith)
 
+  half-there : (b : ℕ) (x : List ℕ) (t : Token) → st .left ≡ b ∷ x → front-of (b ∷ x) ≡ broken t → Half t (st .left)
+  half-there b x t l f = rw l (rw f at (shown (b ∷ x)))
+
   fault-refusal : (a k j : ℕ) → a ≡ length (bytes (st .pieces)) → Fault (st .to) a (st .left) k j → Refusal text k j
   fault-refusal a k j e (early l b) = rw e (unexpected-byte before (early-means text (st .left) (st .pieces) (st .to) (st .whole) (st .spaced) (st .reaches) l b))
   fault-refusal a k j e (strange {b} {x} l q) = rw e (unexpected-byte before (strange-means text (st .left) (st .pieces) (st .to) (st .whole) (st .spaced) (st .reaches) b x l q))
@@ -142,7 +146,7 @@ module _ (text : List ℕ) (c i : ℕ) (st : Stops start 0 text c i) where
   fault-refusal a k j e (half-misplaced {b} {x} {t} l f w) =
       rw e (unexpected-byte before (half-misplaced-means text (st .left) (st .pieces) (st .to) (st .whole) (st .spaced) (st .reaches) b x t l f w))
   fault-refusal a k j e (half {b} {x} {t} {n} l f w) =
-      rw e (unexpected-second before (half-means text (st .left) (st .pieces) (st .to) (st .whole) (st .spaced) (st .reaches) b x t n l f w))
+      rw e (unexpected-second t before (half-there b x t l f) w (half-means text (st .left) (st .pieces) (st .to) (st .whole) (st .spaced) (st .reaches) b x t n l f w))
   fault-refusal a k j e (long-name {t} {r} {n} f w m l) = let q = long-means t l in rw e (longest-name (rw (q .1) at (reached f w)) (q .2))
   fault-refusal a k j e (too-many {t} {r} {n} {c = d} f w m) = rw e (rw m at (limit-refusal (limit (st .to .rules) (st .to .part) t) (reached f w) (limits (st .to) t) d m))
 
