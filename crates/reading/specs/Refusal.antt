@@ -45,6 +45,16 @@ pub record Reached (text : List ℕ) (at : ℕ) (s : State) (t : Token) : Type 0
   pub goes : State
   pub takes : next (s .rules) (s .part) (s .mode) t ≡ taken goes
 
+-- a name or a variable: it begins an argument, a formula or a clause
+abbrev pub Begins : Token → Type 0
+Begins (name w) = Unit {0}
+Begins (variable w) = Unit {0}
+Begins opening = ⊥
+Begins closing = ⊥
+Begins comma = ⊥
+Begins arrow = ⊥
+Begins stop = ⊥
+
 -- it would be the 9th argument, or the 17th formula of a body (the head is one formula more)
 abbrev pub Ninth : Part → Type 0
 Ninth (formulas fs) = 17 ≤ length fs
@@ -62,8 +72,8 @@ pub data Refusal (text : List ℕ) : ℕ → ℕ → Type 0 where
   unexpected-second : {at : ℕ} {s n : State} (t : Token) (b : Before text at s) → Half t (b .left) → next (s .rules) (s .part) (s .mode) t ≡ taken n → Unexpected text (at + 1) →
       Refusal text 41 (at + 1)
   longest-name : {at : ℕ} {s : State} {w : List ℕ} → Reached text at s (name w) → 33 ≤ length w → Refusal text 42 (at + 32)
-  out-of-range : {at : ℕ} {s : State} {t : Token} → Reached text at s t → Ninth (s .part) → Refusal text 4 at
-  size-passed : {at : ℕ} {s : State} {t : Token} → Reached text at s t → Room (s .part) → Passed s t → Refusal text 5 at
+  out-of-range : {at : ℕ} {s : State} {t : Token} → Reached text at s t → Begins t → Ninth (s .part) → Refusal text 4 at
+  size-passed : {at : ℕ} {s : State} {t : Token} → Reached text at s t → Begins t → Room (s .part) → Passed s t → Refusal text 5 at
   long-book : (cs : List Rule) → Writes text cs → SmallRules cs → length cs ≤ 512 → 32768 < length (encodeBook (book cs)) → Refusal text 5 (length text)
 
 -- The tests
@@ -83,8 +93,8 @@ long-means stop e = let z : _≡_ {A = ℕ} 0 1 = cc in absurd (omega arith)
 
 -- the code of a size that is passed, and why
 data Limits (s : State) (t : Token) : ℕ → Type 0 where
-  by-range : Ninth (s .part) → Limits s t 4
-  by-size : Room (s .part) → Passed s t → Limits s t 5
+  by-range : Begins t → Ninth (s .part) → Limits s t 4
+  by-size : Begins t → Room (s .part) → Passed s t → Limits s t 5
   by-none : Limits s t 0
 
 crowded-passed : (s : State) (t : Token) → crowded (s .rules) (s .part) ≡ true → Passed s t
@@ -94,15 +104,15 @@ crowded-passed s t e =
 
 limits : (s : State) (t : Token) → Limits s t (limit (s .rules) (s .part) t)
 limits s (name w) =
-    cases (full (s .part)) (λ h. rw h (by-range (full-means (s .part) h)))
-    (λ h. cases (crowded (s .rules) (s .part)) (λ k. rw (h, k) (by-size (not-full (s .part) h) (crowded-passed s (name w) k))) (λ k. rw (h, k) by-none))
+    cases (full (s .part)) (λ h. rw h (by-range tt (full-means (s .part) h)))
+    (λ h. cases (crowded (s .rules) (s .part)) (λ k. rw (h, k) (by-size tt (not-full (s .part) h) (crowded-passed s (name w) k))) (λ k. rw (h, k) by-none))
 limits s (variable w) =
-    cases (full (s .part)) (λ h. rw h (by-range (full-means (s .part) h)))
+    cases (full (s .part)) (λ h. rw h (by-range tt (full-means (s .part) h)))
     (λ h.
-    cases (crowded (s .rules) (s .part)) (λ k. rw (h, k) (by-size (not-full (s .part) h) (crowded-passed s (variable w) k)))
+    cases (crowded (s .rules) (s .part)) (λ k. rw (h, k) (by-size tt (not-full (s .part) h) (crowded-passed s (variable w) k)))
     (λ k.
     cases (leb 65 (length (with-variable (variables (s .part)) w)))
-    (λ l. rw (h, k, l) (by-size (not-full (s .part) h) (variables-passed (leb-true 65 (length (with-variable (variables (s .part)) w)) l))))
+    (λ l. rw (h, k, l) (by-size tt (not-full (s .part) h) (variables-passed (leb-true 65 (length (with-variable (variables (s .part)) w)) l))))
     (λ l. rw (h, k, l) by-none)))
 limits s opening = by-none
 limits s closing = by-none
@@ -131,8 +141,8 @@ module _ (text : List ℕ) (c i : ℕ) (st : Stops start 0 text c i) where
       record { before = before; rest = r; token-there = h .0; stands = h .1; goes = n; takes = k }
 
   limit-refusal : {t : Token} (m : ℕ) → Reached text (length (bytes (st .pieces))) (st .to) t → Limits (st .to) t m → (k : ℕ) → m ≡ suc k → Refusal text m (length (bytes (st .pieces)))
-  limit-refusal m r (by-range h) k e = out-of-range r h
-  limit-refusal m r (by-size h p) k e = size-passed r h p
+  limit-refusal m r (by-range b h) k e = out-of-range r b h
+  limit-refusal m r (by-size b h p) k e = size-passed r b h p
   limit-refusal m r by-none k e = absurd (omega arith)
 
   half-there : (b : ℕ) (x : List ℕ) (t : Token) → st .left ≡ b ∷ x → front-of (b ∷ x) ≡ broken t → Half t (st .left)
