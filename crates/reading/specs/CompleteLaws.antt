@@ -28,13 +28,13 @@ room-full (inside p v d) h = lt-leb 8 (size d) (omega arith)
 uncrowded : (cs : List Rule) (p : Part) → Passes cs p → crowded cs p ≡ false
 uncrowded cs p h = rw (lt-leb 256 (nodes p) (omega (arith, h .nodes)), lt-leb 512 (length cs) (omega (arith, h .rules)))
 
-name-between : (cs : List Rule) (p : Part) (w : List ℕ) → Passes cs p → length w ≤ 32 → (at : ℕ) → judge-token (state cs p between) at (name w) ≡ going (state cs p (named w))
+pub name-between : (cs : List Rule) (p : Part) (w : List ℕ) → Passes cs p → length w ≤ 32 → (at : ℕ) → judge-token (state cs p between) at (name w) ≡ going (state cs p (named w))
 name-between cs p w h l at = rw (room-full p (h .room), uncrowded cs p h, lt-leb 33 (length w) (omega arith))
 
-name-expected : (cs : List Rule) (p : Part) (w : List ℕ) → Passes cs p → length w ≤ 32 → (at : ℕ) → judge-token (state cs p expects) at (name w) ≡ going (state cs p (named w))
+pub name-expected : (cs : List Rule) (p : Part) (w : List ℕ) → Passes cs p → length w ≤ 32 → (at : ℕ) → judge-token (state cs p expects) at (name w) ≡ going (state cs p (named w))
 name-expected cs p w h l at = rw (room-full p (h .room), uncrowded cs p h, lt-leb 33 (length w) (omega arith))
 
-variable-expected : (cs : List Rule) (p : Part) (v w : List ℕ) (d : Done) → Passes cs (inside p v d) → length (with-variable (variables (inside p v d)) w) ≤ 64 → (at : ℕ) →
+pub variable-expected : (cs : List Rule) (p : Part) (v w : List ℕ) (d : Done) → Passes cs (inside p v d) → length (with-variable (variables (inside p v d)) w) ≤ 64 → (at : ℕ) →
     judge-token (state cs (inside p v d) expects) at (variable w) ≡ going (state cs (inside p v (and-variable d w)) complete)
 variable-expected cs p v w d h l at =
     rw (room-full (inside p v d) (h .room), uncrowded cs (inside p v d) h, lt-leb 65 (length (with-variable (variables (inside p v d)) w)) (omega arith))
@@ -46,7 +46,7 @@ abbrev pub opened : Turn → List Rule → Part → List ℕ → Done → State
 opened first cs q w d = state cs q (named w)
 opened later cs q w d = state cs (inside q w d) complete
 
-sign-taken : (cs : List Rule) (q : Part) (w : List ℕ) (d : Done) (at : ℕ) → judge-token (opened (turn d) cs q w d) at (before (turn d)) ≡ going (state cs (inside q w d) expects)
+pub sign-taken : (cs : List Rule) (q : Part) (w : List ℕ) (d : Done) (at : ℕ) → judge-token (opened (turn d) cs q w d) at (before (turn d)) ≡ going (state cs (inside q w d) expects)
 sign-taken cs q w none-yet at = refl
 sign-taken cs q w (and-variable d v) at = refl
 sign-taken cs q w (and-name d v own) at = refl
@@ -56,18 +56,18 @@ later-shut none r = refl
 later-shut (variable-then w ts) r = refl
 later-shut (name-then w own ts) r = refl
 
-terms-more : (ts : Terms) (seen : List (List ℕ)) → length seen ≤ length (terms-variables seen ts)
+pub terms-more : (ts : Terms) (seen : List (List ℕ)) → length seen ≤ length (terms-variables seen ts)
 terms-more none seen = omega arith
 terms-more (variable-then w ts) seen = omega (arith, with-more seen w, terms-more ts (with-variable seen w))
 terms-more (name-then w own ts) seen = omega (arith, terms-more own seen, terms-more ts (terms-variables seen own))
 
 -- the arguments to come fit behind those that are done
-record Fitting (cs : List Rule) (q : Part) (w : List ℕ) (d : Done) (ts : Terms) : Type 0 where
-  rules : length cs ≤ 511
-  few : size d + count ts ≤ 8
-  small : Small ts
-  fits : nodes (inside q w d) + terms-nodes ts ≤ 256
-  known : length (terms-variables (variables (inside q w d)) ts) ≤ 64
+pub record Fitting (cs : List Rule) (q : Part) (w : List ℕ) (d : Done) (ts : Terms) : Type 0 where
+  pub rules : length cs ≤ 511
+  pub few : size d + count ts ≤ 8
+  pub small : Small ts
+  pub fits : nodes (inside q w d) + terms-nodes ts ≤ 256
+  pub known : length (terms-variables (variables (inside q w d)) ts) ≤ 64
 
 none-run : (cs : List Rule) (q : Part) (w : List ℕ) (d : Done) (r : List Token) (e : State) → Shut r → Runs (state cs (put q w (terms-of d none)) complete) r e →
     Runs (opened (turn d) cs q w d) (arguments-then (turn d) none r) e
@@ -75,7 +75,7 @@ none-run cs q w none-yet r e h c = unsettle-runs (state cs q (named w)) h c
 none-run cs q w (and-variable d v) r e h c = run-step (λ at. refl) c
 none-run cs q w (and-name d v own) r e h c = run-step (λ at. refl) c
 
-arguments-run : (ts : Terms) (cs : List Rule) (q : Part) (w : List ℕ) (d : Done) (r : List Token) (e : State) → Fitting cs q w d ts → Shut r →
+pub arguments-run : (ts : Terms) (cs : List Rule) (q : Part) (w : List ℕ) (d : Done) (r : List Token) (e : State) → Fitting cs q w d ts → Shut r →
     Runs (state cs (put q w (terms-of d ts)) complete) r e → Runs (opened (turn d) cs q w d) (arguments-then (turn d) ts r) e
 arguments-run none cs q w d r e f h c = none-run cs q w d r e h c
 arguments-run (variable-then v ts) cs q w d r e f h c =
@@ -102,12 +102,12 @@ arguments-run (name-then v own ts) cs q w d r e f h c =
 -- Formulas and rules
 
 -- these formulas fit behind those that are read
-record Coming (cs : List Rule) (fs gs : List Formula) : Type 0 where
-  rules : length cs ≤ 511
-  few : length fs + length gs ≤ 17
-  small : SmallFormulas gs
-  fits : formulas-nodes fs + length (formulas-spots gs) ≤ 256
-  known : length (variables-after (formulas-variables fs) (formulas-spots gs)) ≤ 64
+pub record Coming (cs : List Rule) (fs gs : List Formula) : Type 0 where
+  pub rules : length cs ≤ 511
+  pub few : length fs + length gs ≤ 17
+  pub small : SmallFormulas gs
+  pub fits : formulas-nodes fs + length (formulas-spots gs) ≤ 256
+  pub known : length (variables-after (formulas-variables fs) (formulas-spots gs)) ≤ 64
 
 coming-on : (cs : List Rule) (fs : List Formula) (g : Formula) (gs : List Formula) → Coming cs fs (g ∷ gs) → Coming cs (g ∷ fs) gs
 coming-on cs fs g gs c =
@@ -122,7 +122,7 @@ coming-on cs fs g gs c =
 coming-passes : (cs : List Rule) (fs : List Formula) (g : Formula) (gs : List Formula) → Coming cs fs (g ∷ gs) → Passes cs (formulas fs)
 coming-passes cs fs g gs c = record { room = omega (arith, c .few); nodes = omega (arith, c .fits, formula-nodes g gs); rules = c .rules }
 
-formula-run : (cs : List Rule) (fs : List Formula) (g : Formula) (gs : List Formula) (r : List Token) (e : State) → Coming cs fs (g ∷ gs) → Shut r →
+pub formula-run : (cs : List Rule) (fs : List Formula) (g : Formula) (gs : List Formula) (r : List Token) (e : State) → Coming cs fs (g ∷ gs) → Shut r →
     Runs (state cs (formulas (g ∷ fs)) complete) r e → Runs (state cs (formulas fs) (named (g .symbol))) (arguments-then first (g .arguments) r) e
 formula-run cs fs g gs r e c h t =
     let d = coming-on cs fs g gs c in
@@ -141,7 +141,7 @@ abbrev pub joint : List Formula → Token
 joint [] = arrow
 joint (f ∷ fs) = comma
 
-joint-taken : (cs : List Rule) (f : Formula) (fs : List Formula) (at : ℕ) → judge-token (state cs (formulas (f ∷ fs)) complete) at (joint fs) ≡ going (state cs (formulas (f ∷ fs)) expects)
+pub joint-taken : (cs : List Rule) (f : Formula) (fs : List Formula) (at : ℕ) → judge-token (state cs (formulas (f ∷ fs)) complete) at (joint fs) ≡ going (state cs (formulas (f ∷ fs)) expects)
 joint-taken cs f [] at = refl
 joint-taken cs f (h ∷ fs) at = refl
 
@@ -157,7 +157,7 @@ body-run (g ∷ gs) cs f fs r e c t =
     (run-step (name-expected cs (formulas (f ∷ fs)) (g .symbol) (coming-passes cs (f ∷ fs) g gs c) (c .small .0 .short))
     (formula-run cs (f ∷ fs) g gs (body-then comma gs r) e c (body-shut comma gs r refl) (body-run gs cs g (f ∷ fs) r e (coming-on cs (f ∷ fs) g gs c) t)))
 
-rule-run : (cs : List Rule) (c : Rule) (r : List Token) (e : State) → length cs ≤ 511 → SmallRule c → Runs (state (c ∷ cs) (formulas []) between) r e →
+pub rule-run : (cs : List Rule) (c : Rule) (r : List Token) (e : State) → length cs ≤ 511 → SmallRule c → Runs (state (c ∷ cs) (formulas []) between) r e →
     Runs (state cs (formulas []) between) (formula-then (c .head) (body-then arrow (c .body) r)) e
 rule-run cs c r e l s t =
     let k : Coming cs [] (c .head ∷ c .body) = record { rules = l; few = omega (arith, s .few); small = s .formulas; fits = omega (arith, s .nodes); known = s .variables } in

@@ -26,6 +26,9 @@ pub mod Unexpected
 pub mod FirstLaws
 pub mod UnexpectedLaws
 pub mod Refusal
+pub mod PartialLaws
+pub mod ReachLaws
+pub mod RefusedLaws
 -- The nodes of what is read in part.
 pub mod Draft
 pub mod Examples

@@ -6,7 +6,7 @@ use mathlib.Core.List.{List, _∷_, _++_}
 use native.Mathlib.Omega.{arith}
 use lib.ListN.{length}
 use lib.Dec.{leb, ltb}
-use borrow.Author.Tests.{leb-true, ltb-true}
+use borrow.Author.Tests.{leb-true, ltb-true, ltb-false}
 use Rattle.terms.specs.Cases.{cases}
 use Rattle.records.specs.Format.{encodeBook}
 use Rattle.grammar.specs.Token.{Token, name, variable, opening, closing, comma, arrow, stop, Piece, token, spelling, bytes, Stands, tokens}
@@ -18,11 +18,12 @@ use Rattle.grammar.specs.Reading.{SmallRules, Writes}
 use Rattle.reading.specs.Part.{Part, formulas, inside, State, start, taken, next}
 use Rattle.reading.specs.Reader.{nodes, variables, size, full, crowded, limit, long, Outcome, read, refused, walk, fitting, reading}
 use Rattle.reading.specs.PrintLaws.{printed}
-use Rattle.reading.specs.LimitLaws.{SmallState, Room, not-full}
+use Rattle.reading.specs.LimitLaws.{SmallState, Room, not-full, Passes, name-passes}
 use Rattle.reading.specs.SoundLaws.{Found, sound}
-use Rattle.reading.specs.Stop.{Fault, early, strange, misplaced, half-misplaced, half, long-name, too-many, Stops}
+use Rattle.reading.specs.Stop.{Spaced-to, Fault, early, strange, misplaced, half-misplaced, half, long-name, too-many, Stops}
 use Rattle.reading.specs.StopLaws.{stops}
 use Rattle.reading.specs.Viable.{came}
+use Rattle.reading.specs.Whole.{Healthy}
 use Rattle.reading.specs.Unexpected.{Unexpected}
 use Rattle.reading.specs.UnexpectedLaws.{strange-means, misplaced-means, half-misplaced-means, half-means, early-means}
 use Rattle.reading.specs.ReadingLaws.{start-small}
@@ -33,8 +34,11 @@ pub record Before (text : List ℕ) (at : ℕ) (s : State) : Type 0 where
   pub left : List ℕ
   pub whole : text ≡ bytes pieces ++ left
   pub place : at ≡ length (bytes pieces)
+  pub spaced : Spaced-to pieces left
   pub makes : (r : List Token) → tokens pieces ++ r ≡ printed s r
+  pub healthy : Healthy (s .part) (s .mode)
   pub small : SmallState s
+  pub short : length text ≤ 65536
 
 -- A token at a place with which a text of the grammar can go on
 pub record Reached (text : List ℕ) (at : ℕ) (s : State) (t : Token) : Type 0 where
@@ -71,10 +75,10 @@ pub data Refusal (text : List ℕ) : ℕ → ℕ → Type 0 where
   unexpected-byte : {at : ℕ} {s : State} → Before text at s → Unexpected text at → Refusal text 41 at
   unexpected-second : {at : ℕ} {s n : State} (t : Token) (b : Before text at s) → Half t (b .left) → next (s .rules) (s .part) (s .mode) t ≡ taken n → Unexpected text (at + 1) →
       Refusal text 41 (at + 1)
-  longest-name : {at : ℕ} {s : State} {w : List ℕ} → Reached text at s (name w) → 33 ≤ length w → Refusal text 42 (at + 32)
+  longest-name : {at : ℕ} {s : State} {w : List ℕ} → Reached text at s (name w) → Room (s .part) → (Passed s (name w) → ⊥) → 33 ≤ length w → Refusal text 42 (at + 32)
   out-of-range : {at : ℕ} {s : State} {t : Token} → Reached text at s t → Begins t → Ninth (s .part) → Refusal text 4 at
   size-passed : {at : ℕ} {s : State} {t : Token} → Reached text at s t → Begins t → Room (s .part) → Passed s t → Refusal text 5 at
-  long-book : (cs : List Rule) → Writes text cs → SmallRules cs → length cs ≤ 512 → 32768 < length (encodeBook (book cs)) → Refusal text 5 (length text)
+  long-book : (cs : List Rule) → length text ≤ 65536 → Writes text cs → SmallRules cs → length cs ≤ 512 → 32768 < length (encodeBook (book cs)) → Refusal text 5 (length text)
 
 -- The tests
 
@@ -120,9 +124,14 @@ limits s comma = by-none
 limits s arrow = by-none
 limits s stop = by-none
 
+-- a name that passes the tests is not one too many
+passes-not : (s : State) (w : List ℕ) → Passes (s .rules) (s .part) → Passed s (name w) → ⊥
+passes-not s w p (nodes-passed h) = omega (arith, h, p .nodes)
+passes-not s w p (rules-passed h) = omega (arith, h, p .rules)
+
 -- The reader
 
-module _ (text : List ℕ) (c i : ℕ) (st : Stops start 0 text c i) where
+module _ (text : List ℕ) (c i : ℕ) (st : Stops start 0 text c i) (short : length text ≤ 65536) where
   abbrev before : Before text (length (bytes (st .pieces))) (st .to)
   before =
       record {
@@ -130,8 +139,11 @@ module _ (text : List ℕ) (c i : ℕ) (st : Stops start 0 text c i) where
         left = st .left;
         whole = st .whole;
         place = refl;
+        spaced = st .spaced;
         makes = came (st .pieces) start (st .to) refl (st .reaches) .makes;
+        healthy = came (st .pieces) start (st .to) refl (st .reaches) .healthy;
         small = st .small;
+        short = short;
       }
 
   reached : {t : Token} {r : List ℕ} {n : State} → front-of (st .left) ≡ front (token t) r → next (st .to .rules) (st .to .part) (st .to .mode) t ≡ taken n →
@@ -145,6 +157,10 @@ module _ (text : List ℕ) (c i : ℕ) (st : Stops start 0 text c i) where
   limit-refusal m r (by-size b h p) k e = size-passed r b h p
   limit-refusal m r by-none k e = absurd (omega arith)
 
+  named-refusal : (w : List ℕ) → Reached text (length (bytes (st .pieces))) (st .to) (name w) → limit (st .to .rules) (st .to .part) (name w) ≡ 0 → 33 ≤ length w →
+      Refusal text 42 (length (bytes (st .pieces)) + 32)
+  named-refusal w r m l = let p = name-passes (st .to .rules) (st .to .part) w m in longest-name r (p .room) (passes-not (st .to) w p) l
+
   half-there : (b : ℕ) (x : List ℕ) (t : Token) → st .left ≡ b ∷ x → front-of (b ∷ x) ≡ broken t → Half t (st .left)
   half-there b x t l f = rw l (rw f at (shown (b ∷ x)))
 
@@ -157,19 +173,19 @@ module _ (text : List ℕ) (c i : ℕ) (st : Stops start 0 text c i) where
       rw e (unexpected-byte before (half-misplaced-means text (st .left) (st .pieces) (st .to) (st .whole) (st .spaced) (st .reaches) b x t l f w))
   fault-refusal a k j e (half {b} {x} {t} {n} l f w) =
       rw e (unexpected-second t before (half-there b x t l f) w (half-means text (st .left) (st .pieces) (st .to) (st .whole) (st .spaced) (st .reaches) b x t n l f w))
-  fault-refusal a k j e (long-name {t} {r} {n} f w m l) = let q = long-means t l in rw e (longest-name (rw (q .1) at (reached f w)) (q .2))
+  fault-refusal a k j e (long-name {t} {r} {n} f w m l) = let q = long-means t l in rw e (named-refusal (q .0) (rw (q .1) at (reached f w)) (rw (q .1) at m) (q .2))
   fault-refusal a k j e (too-many {t} {r} {n} {c = d} f w m) = rw e (rw m at (limit-refusal (limit (st .to .rules) (st .to .part) t) (reached f w) (limits (st .to) t) d m))
 
-fitting-refused : (text : List ℕ) (o : Outcome) (c i : ℕ) → ((cs : List Rule) → o ≡ read cs → Found start text cs) → (o ≡ refused c i → Refusal text c i) → fitting (length text) o ≡ refused c i → Refusal text c i
-fitting-refused text (refused d j) c i f g e = g e
-fitting-refused text (read cs) c i f g e =
+fitting-refused : (text : List ℕ) (o : Outcome) (c i : ℕ) → length text ≤ 65536 → ((cs : List Rule) → o ≡ read cs → Found start text cs) → (o ≡ refused c i → Refusal text c i) → fitting (length text) o ≡ refused c i → Refusal text c i
+fitting-refused text (refused d j) c i short f g e = g e
+fitting-refused text (read cs) c i short f g e =
     cases (ltb 32768 (length (encodeBook (book cs))))
     (λ t.
     let q : refused 5 (length text) ≡ refused c i = rw t at e in
     let p : 5 ≡ c = cc in
     let r : length text ≡ i = cc in
     let w = f cs refl in
-    rw p at (rw r at (let z : Refusal text 5 (length text) = long-book cs (record { pieces = w .pieces; spaced = w .spaced; whole = w .whole; listed = inv (w .makes) }) (w .small) (w .few) (ltb-true 32768 (length (encodeBook (book cs))) t) in z)))
+    rw p at (rw r at (let z : Refusal text 5 (length text) = long-book cs short (record { pieces = w .pieces; spaced = w .spaced; whole = w .whole; listed = inv (w .makes) }) (w .small) (w .few) (ltb-true 32768 (length (encodeBook (book cs))) t) in z)))
     (λ t. let q : read cs ≡ refused c i = rw t at e in let z : _≡_ {A = ℕ} 0 1 = cc in absurd (omega arith))
 
 -- what the reader's refusal says
@@ -183,7 +199,7 @@ refusal text c i e =
     let r : 0 ≡ i = cc in
     rw p at (rw r at (let z : Refusal text 40 0 = long-text (ltb-true 65536 (length text) t) in z)))
     (λ t.
-    fitting-refused text (walk (suc (length text)) start 0 text) c i
+    fitting-refused text (walk (suc (length text)) start 0 text) c i (ltb-false 65536 (length text) t)
     (λ cs h. sound (suc (length text)) start 0 text cs (omega arith) refl start-small h)
-    (λ h. let st = stops (suc (length text)) start 0 text c i (omega arith) start-small h in fault-refusal text c i st (0 + length (bytes (st .pieces))) c i (omega arith) (st .fault))
+    (λ h. let st = stops (suc (length text)) start 0 text c i (omega arith) start-small h in fault-refusal text c i st (ltb-false 65536 (length text) t) (0 + length (bytes (st .pieces))) c i (omega arith) (st .fault))
     (rw t at e))

@@ -85,7 +85,7 @@ gap-runs : {s e : State} (ts : List Token) → Unopened ts → Runs s ts e → e
 gap-runs {s} [] h run-end b = rw (settle-between s b) run-end
 gap-runs (t ∷ ts) h r b = settle-runs h r
 
-walk-front : (k : ℕ) (s : State) (at : ℕ) (text : List ℕ) (p : Piece) (rest : List ℕ) → front-of text ≡ front p rest →
+pub walk-front : (k : ℕ) (s : State) (at : ℕ) (text : List ℕ) (p : Piece) (rest : List ℕ) → front-of text ≡ front p rest →
     walk (suc k) s at text ≡ go-on (judge s at p) (λ n. walk k n (at + length (spelt p)) rest)
 walk-front k s at [] p rest e = let z : _≡_ {A = ℕ} 0 1 = cc in absurd (omega arith)
 walk-front k s at (b ∷ text) p rest e = ap (λ (f : Front). from-front s at f (walk k)) e
