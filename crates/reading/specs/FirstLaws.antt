@@ -10,14 +10,14 @@ use Rattle.reading.specs.Viable.{Viable}
 use Rattle.reading.specs.Unexpected.{Unexpected, too-early, no-further}
 
 -- what begins a beginning of a text begins a text
-viable-front : (x y : List ℕ) → Viable (x ++ y) → Viable x
+pub viable-front : (x y : List ℕ) → Viable (x ++ y) → Viable x
 viable-front x y v = record { rest = y ++ v .rest; rules = v .rules; writes = rw (append-assoc x y (v .rest)) at (v .writes) }
 
-viable-take : (text : List ℕ) (i j : ℕ) → i ≤ j → Viable (take j text) → Viable (take i text)
+pub viable-take : (text : List ℕ) (i j : ℕ) → i ≤ j → Viable (take j text) → Viable (take i text)
 viable-take text i j h v =
     viable-front (take i text) (take (j - i) (drop i text)) (rw (ap (λ (k : ℕ). take k text) (let q : j ≡ i + (j - i) = omega arith in q) ∙ take-add i (j - i) text) at v)
 
-viable-whole : (text : List ℕ) (i : ℕ) → i ≤ length text → Viable text → Viable (take i text)
+pub viable-whole : (text : List ℕ) (i : ℕ) → i ≤ length text → Viable text → Viable (take i text)
 viable-whole text i h v = viable-take text i (length text) h (rw (take-all (length text) text (omega arith)) v)
 
 not-before : (text : List ℕ) (i j : ℕ) → i < j → Viable (take j text) → (Viable (take (suc i) text) → ⊥) → ⊥

@@ -1,9 +1,8 @@
 -- The reader of a text (document 02, C-13) as a definition, token by token: what it has read (Part), what it reads (Reader), what is answered and what the areas hold
--- (Answer). What is proved of it, besides the files of laws:
+-- (Answer). What is proved of it:
 --   ReadingLaws   the accepted texts are exactly the grammar's (`reading-iff`)
 --   Answer        each reading is given, where the areas have room (`reading-given`)
---   Refusal       what each refusal says of the text (`refusal`)
---   Unexpected    what an unexpected byte is
+--   RefusalLaws   a text is refused just where the refusal's relation holds (`refusal-iff`), in one way only (`refusal-one`); the relations are in Refusal and Unexpected
 pub mod Part
 pub mod Reader
 -- What is read is written in the text, and kept to the sizes.
@@ -26,9 +25,12 @@ pub mod Unexpected
 pub mod FirstLaws
 pub mod UnexpectedLaws
 pub mod Refusal
+-- Where a relation holds, the reader refuses so.
 pub mod PartialLaws
 pub mod ReachLaws
 pub mod RefusedLaws
+pub mod AloneLaws
+pub mod RefusalLaws
 -- The nodes of what is read in part.
 pub mod Draft
 pub mod Examples

@@ -19,7 +19,7 @@ use Rattle.reading.specs.CompleteLaws.{opened, Coming, sign-taken, name-
 -- Arguments that are done
 
 -- what follows them begins with no bracket, where there are some
-abbrev Follows : Done → List Token → Type 0
+abbrev pub Follows : Done → List Token → Type 0
 Follows none-yet y = Unit {0}
 Follows (and-variable d w) y = Shut y
 Follows (and-name d w own) y = Shut y
@@ -29,7 +29,7 @@ sign-follows none-yet y = tt
 sign-follows (and-variable d w) y = refl
 sign-follows (and-name d w own) y = refl
 
-done-run : (d : Done) (cs : List Rule) (q : Part) (v : List ℕ) (y : List Token) (e : State) → SmallDone d → size d ≤ 8 → length cs ≤ 511 → nodes (inside q v d) ≤ 256 →
+pub done-run : (d : Done) (cs : List Rule) (q : Part) (v : List ℕ) (y : List Token) (e : State) → SmallDone d → size d ≤ 8 → length cs ≤ 511 → nodes (inside q v d) ≤ 256 →
     length (variables (inside q v d)) ≤ 64 → Follows d y → Runs (opened (turn d) cs q v d) y e → Runs (state cs q (named v)) (done-then d y) e
 done-run none-yet cs q v y e s z l n k f r = r
 done-run (and-variable d w) cs q v y e s z l n k f r =
@@ -64,7 +64,7 @@ joint-shut : (fs : List Formula) (x : List Token) → Shut (joint fs ∷ x)
 joint-shut [] x = refl
 joint-shut (f ∷ fs) x = refl
 
-formulas-run : (fs : List Formula) (f : Formula) (cs : List Rule) (x : List Token) (e : State) → SmallFormulas (f ∷ fs) → length (f ∷ fs) ≤ 17 → formulas-nodes (f ∷ fs) ≤ 256 →
+pub formulas-run : (fs : List Formula) (f : Formula) (cs : List Rule) (x : List Token) (e : State) → SmallFormulas (f ∷ fs) → length (f ∷ fs) ≤ 17 → formulas-nodes (f ∷ fs) ≤ 256 →
     length (formulas-variables (f ∷ fs)) ≤ 64 → length cs ≤ 511 → Shut x → Runs (state cs (formulas (f ∷ fs)) complete) x e → Runs (state cs (formulas []) between) (formulas-then (f ∷ fs) x) e
 formulas-run [] f cs x e s few n k l h r =
     run-step (name-between cs (formulas []) (f .symbol) (record { room = omega arith; nodes = omega arith; rules = l }) (s .0 .short))
@@ -84,17 +84,17 @@ waiting (formulas []) = between
 waiting (formulas (f ∷ fs)) = expects
 waiting (inside p v d) = expects
 
-name-waited : (p : Part) (cs : List Rule) (w : List ℕ) (y : List Token) (e : State) → Passes cs p → length w ≤ 32 → Runs (state cs p (named w)) y e → Runs (state cs p (waiting p)) (name w ∷ y) e
+pub name-waited : (p : Part) (cs : List Rule) (w : List ℕ) (y : List Token) (e : State) → Passes cs p → length w ≤ 32 → Runs (state cs p (named w)) y e → Runs (state cs p (waiting p)) (name w ∷ y) e
 name-waited (formulas []) cs w y e h l r = run-step (name-between cs (formulas []) w h l) r
 name-waited (formulas (f ∷ fs)) cs w y e h l r = run-step (name-expected cs (formulas (f ∷ fs)) w h l) r
 name-waited (inside p v d) cs w y e h l r = run-step (name-expected cs (inside p v d) w h l) r
 
-variables-grow : (d : Done) (seen : List (List ℕ)) → length seen ≤ length (done-variables seen d)
+pub variables-grow : (d : Done) (seen : List (List ℕ)) → length seen ≤ length (done-variables seen d)
 variables-grow none-yet seen = omega arith
 variables-grow (and-variable d w) seen = omega (arith, variables-grow d seen, with-more (done-variables seen d) w)
 variables-grow (and-name d w own) seen = omega (arith, variables-grow d seen, terms-more own (done-variables seen d))
 
-part-run : (p : Part) (cs : List Rule) (x : List Token) (e : State) → SmallPart p → nodes p ≤ 256 → length (variables p) ≤ 64 → length cs ≤ 511 → Runs (state cs p (waiting p)) x e →
+pub part-run : (p : Part) (cs : List Rule) (x : List Token) (e : State) → SmallPart p → nodes p ≤ 256 → length (variables p) ≤ 64 → length cs ≤ 511 → Runs (state cs p (waiting p)) x e →
     Runs (state cs (formulas []) between) (before-next p x) e
 part-run (formulas []) cs x e s n k l r = r
 part-run (formulas (f ∷ fs)) cs x e s n k l r =

@@ -12,7 +12,7 @@ use Rattle.records.specs.Format.{encodeBook}
 use Rattle.grammar.specs.Token.{bytes, tokens}
 use Rattle.grammar.specs.Syntax.{Rule}
 use Rattle.grammar.specs.Names.{book}
-use Rattle.grammar.specs.Reading.{Sized, Writes}
+use Rattle.grammar.specs.Reading.{SmallRules, Sized, Writes}
 use Rattle.reading.specs.Part.{start}
 use Rattle.reading.specs.Reader.{Outcome, read, refused, walk, fitting, reading}
 use Rattle.reading.specs.LimitLaws.{SmallState}
@@ -57,10 +57,9 @@ reading-sound text cs e =
     let f = fitting-read (length text) (walk (suc (length text)) start 0 text) cs (rw t at e) in
     found-accepted text cs (ltb-false 65536 (length text) t) (f .1) (sound (suc (length text)) start 0 text cs (omega arith) refl start-small (f .0)))
 
-walk-read : (text : List ℕ) (cs : List Rule) → Accepted text cs → walk (suc (length text)) start 0 text ≡ read cs
-walk-read text cs a =
-    let w = a .writes in
-    let t = text-run cs [] (a .sized .rules) (omega (arith, a .sized .few)) in
+pub walk-read : (text : List ℕ) (cs : List Rule) → Writes text cs → SmallRules cs → length cs ≤ 512 → walk (suc (length text)) start 0 text ≡ read cs
+walk-read text cs w s l =
+    let t = text-run cs [] s (omega arith) in
     let r : Runs start (tokens (w .pieces)) (t .end) = rw (w .listed) at (t .run) in
     let o = walk-runs (suc (length text)) start 0 (w .pieces) (t .end) (w .spaced) (omega (arith, ap length (w .whole))) r (t .over) in
     ap (walk (suc (length text)) start 0) (w .whole) ∙ o ∙ ap read (t .all)
@@ -68,7 +67,7 @@ walk-read text cs a =
 pub reading-complete : (text : List ℕ) (cs : List Rule) → Accepted text cs → reading text ≡ read cs
 unfolding reading
 reading-complete text cs a =
-    rw (le-ltb 65536 (length text) (a .short), walk-read text cs a, le-ltb 32768 (length (encodeBook (book cs))) (a .sized .bytes))
+    rw (le-ltb 65536 (length text) (a .short), walk-read text cs (a .writes) (a .sized .rules) (a .sized .few), le-ltb 32768 (length (encodeBook (book cs))) (a .sized .bytes))
 
 pub reading-iff : (text : List ℕ) (cs : List Rule) → (reading text ≡ read cs) ↔ Accepted text cs
 reading-iff text cs = (reading-sound text cs, reading-complete text cs)

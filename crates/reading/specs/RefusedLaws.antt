@@ -91,15 +91,15 @@ refused-after (suc k) s at t left rest c i l e f = ap (walk (suc k) s at) e ∙ 
 
 module _ {text : List ℕ} {at : ℕ} {s : State} {t : Token} (r : Reached text at s t) (b : Begins t) (c i : ℕ)
     (bad-there : (n : State) → judge-taken (taken n) (limit (s .rules) (s .part) t) (long t) at ≡ bad c i) where
-  abbrev there : State
+  abbrev pub there : State
   there = state (s .rules) (s .part) (waiting (s .part))
 
-  judged : judge-token there at t ≡ bad c i
+  pub judged : judge-token there at t ≡ bad c i
   judged =
       let w = waited (s .rules) (s .part) (s .mode) t (r .goes) b (r .takes) in
       ap (λ (n : Taken). judge-taken n (limit (s .rules) (s .part) t) (long t) at) (w .1) ∙ bad-there (w .0)
 
-  run-there : Runs start (tokens (r .before .pieces)) there
+  pub run-there : Runs start (tokens (r .before .pieces)) there
   run-there =
       rw (inv (append-nil (tokens (r .before .pieces))) ∙ r .before .makes [])
       (before-run (s .rules) (s .part) (s .mode) (awaits (s .rules) (s .part) (s .mode) t (r .goes) b (r .takes)) (r .before .healthy) (r .before .small))
@@ -166,13 +166,14 @@ name-limit s w h d =
     let l : leb 512 (length (s .rules)) ≡ false = cases (leb 512 (length (s .rules))) (λ e. absurd (d (rules-passed (leb-true 512 (length (s .rules)) e)))) (λ e. e) in
     rw (free-of (s .part) h, n, l)
 
--- 4, 5 and 42 are said where they stand
+-- what is judged of a token that may stand there
 
-pub range-refused : {text : List ℕ} {at : ℕ} {s : State} {t : Token} → Reached text at s t → Begins t → Ninth (s .part) → reading text ≡ refused 4 at
-range-refused {at = at} {s} {t} r b h = word-refused r b 4 at (λ n. rw (range-limit s t b h))
+pub range-bad : (s : State) (t : Token) (at : ℕ) → Begins t → Ninth (s .part) → (n : State) → judge-taken (taken n) (limit (s .rules) (s .part) t) (long t) at ≡ bad 4 at
+range-bad s t at b h n = rw (range-limit s t b h)
 
-pub size-refused : {text : List ℕ} {at : ℕ} {s : State} {t : Token} → Reached text at s t → Begins t → Room (s .part) → Passed s t → reading text ≡ refused 5 at
-size-refused {at = at} {s} {t} r b h p = word-refused r b 5 at (λ n. rw (size-limit s t b h p))
+pub size-bad : (s : State) (t : Token) (at : ℕ) → Begins t → Room (s .part) → Passed s t → (n : State) → judge-taken (taken n) (limit (s .rules) (s .part) t) (long t) at ≡ bad 5 at
+size-bad s t at b h p n = rw (size-limit s t b h p)
 
-pub name-refused : {text : List ℕ} {at : ℕ} {s : State} {w : List ℕ} → Reached text at s (name w) → Room (s .part) → (Passed s (name w) → ⊥) → 33 ≤ length w → reading text ≡ refused 42 (at + 32)
-name-refused {at = at} {s} {w} r h d l = word-refused r tt 42 (at + 32) (λ n. rw (name-limit s w h d, le-leb 33 (length w) l))
+pub name-bad : (s : State) (w : List ℕ) (at : ℕ) → Room (s .part) → (Passed s (name w) → ⊥) → 33 ≤ length w → (n : State) →
+    judge-taken (taken n) (limit (s .rules) (s .part) (name w)) (long (name w)) at ≡ bad 42 (at + 32)
+name-bad s w at h d l n = rw (name-limit s w h d, le-leb 33 (length w) l)

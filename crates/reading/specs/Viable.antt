@@ -61,11 +61,11 @@ fits-behind : (p : Piece) (x u v : List ℕ) → 0 < length x → Fits p (x ++ u
 fits-behind p [] u v l h = absurd (omega arith)
 fits-behind p (b ∷ x) u v l h = fits-first p b (x ++ u) (x ++ v) h
 
-bytes-append : (ps qs : List Piece) → bytes (ps ++ qs) ≡ bytes ps ++ bytes qs
+pub bytes-append : (ps qs : List Piece) → bytes (ps ++ qs) ≡ bytes ps ++ bytes qs
 bytes-append [] qs = refl
 bytes-append (p ∷ ps) qs = ap (λ (l : List ℕ). spelt p ++ l) (bytes-append ps qs) ∙ inv (append-assoc (spelt p) (bytes ps) (bytes qs))
 
-tokens-append : (ps qs : List Piece) → tokens (ps ++ qs) ≡ tokens ps ++ tokens qs
+pub tokens-append : (ps qs : List Piece) → tokens (ps ++ qs) ≡ tokens ps ++ tokens qs
 tokens-append [] qs = refl
 tokens-append (token t ∷ ps) qs = ap (λ (l : List Token). t ∷ l) (tokens-append ps qs)
 tokens-append (blank b ∷ ps) qs = tokens-append ps qs
@@ -164,7 +164,7 @@ viable-here ps left n sp c =
 over-step : (n m : State) (t : Token) (ts : List Token) → next (n .rules) (n .part) (n .mode) t ≡ taken m → Over (goes m ts) → Over (goes n (t ∷ ts))
 over-step n m t ts e o = rw e o
 
-step-healthy : (n m : State) (t : Token) → next (n .rules) (n .part) (n .mode) t ≡ taken m → Healthy (m .part) (m .mode)
+pub step-healthy : (n m : State) (t : Token) → next (n .rules) (n .part) (n .mode) t ≡ taken m → Healthy (m .part) (m .mode)
 step-healthy n m t e = rw e at (next-healthy (n .rules) (n .part) (n .mode) t)
 
 -- and so does the first byte of a token that may stand next
