@@ -1,26 +1,66 @@
-// The entries, each with its line.
-use crate::print::last;
-use crate::print::number;
-use crate::print::sum;
+// The entries, each with its line. What each leaves in a lent area is what the entry's contract says.
+use engine::Answer;
 use engine::Stepped;
+use libc::STDOUT_FILENO;
 use records::Check;
+ghost use mathlib.Core.Path.{_≡_};
+ghost use mathlib.Core.Bool.{true};
+ghost use Prim.Native.Nat.{_<_};
+ghost use Rattle.engine.specs.Outcome.{stepArea, applyArea, runArea};
 
-fn check(a: Check) -> bool {
+fn number(n: u64) {
+    io::print_decimal(STDOUT_FILENO, n);
+    io::write_all(STDOUT_FILENO, b" ");
+}
+
+fn last(n: u64) {
+    io::print_decimal(STDOUT_FILENO, n);
+    io::write_all(STDOUT_FILENO, b"\n");
+}
+
+fn wide(x: u8) -> u64
+    ensures { λ r. ⌜ r < 256 ⌝ }
+{
+    x as u64
+}
+
+fn added(sum: u64, byte: u8) -> u64 {
+    sum % 0x8000_0000 * 0x100_0193 + wide(byte)
+}
+
+// A sum that any one byte changes, and to which each byte adds by its place.
+fn sum(bytes: &[u8]) -> u64 {
+    let mut sum: u64 = 1;
+    for i in 0..bytes.len() {
+        sum = added(sum, bytes[i]);
+    }
+    sum % 0x8000_0000
+}
+
+fn check(a: Check) -> bool
+    ensures { λ r. ⌜ r ≡ true ⌝ }
+{
     number(a.code as u64);
     number(a.place as u64);
     last(a.count as u64);
     true
 }
 
-pub fn check_book(book: &[u8]) -> bool {
+pub fn check_book(book: &[u8]) -> bool
+    ensures { λ r. ⌜ r ≡ true ⌝ }
+{
     check(records::check_book(book))
 }
 
-pub fn check_query(query: &[u8]) -> bool {
+pub fn check_query(query: &[u8]) -> bool
+    ensures { λ r. ⌜ r ≡ true ⌝ }
+{
     check(records::check_query(query))
 }
 
-fn stepped(a: Stepped, area: &[u8]) -> bool {
+fn stepped(a: Stepped, area: &[u8]) -> bool
+    ensures { λ r. ⌜ r ≡ true ⌝ }
+{
     number(a.code as u64);
     number(a.place as u64);
     number(a.steps as u64);
@@ -33,17 +73,25 @@ fn stepped(a: Stepped, area: &[u8]) -> bool {
     true
 }
 
-pub fn step(book: &[u8], query: &[u8], area: &mut [u8]) -> bool {
+pub fn step(book: &[u8], query: &[u8], area: &mut [u8]) -> bool
+    ensures { λ r. ⌜ r ≡ true ⌝ }
+    ensures area { λ _. ⌜ now (area .exit) ≡ stepArea (now (book .entry)) (now (query .entry)) (now (area .entry)) ⌝ }
+{
     let a = engine::step::step(book, query, area);
     stepped(a, area)
 }
 
-pub fn apply(book: &[u8], query: &[u8], clause: u32, area: &mut [u8]) -> bool {
+pub fn apply(book: &[u8], query: &[u8], clause: u32, area: &mut [u8]) -> bool
+    ensures { λ r. ⌜ r ≡ true ⌝ }
+    ensures area { λ _. ⌜ now (area .exit) ≡ applyArea (now (book .entry)) (now (query .entry)) clause (now (area .entry)) ⌝ }
+{
     let a = engine::apply::apply(book, query, clause, area);
     stepped(a, area)
 }
 
-pub fn pick(book: &[u8], query: &[u8]) -> bool {
+pub fn pick(book: &[u8], query: &[u8]) -> bool
+    ensures { λ r. ⌜ r ≡ true ⌝ }
+{
     let a = engine::pick::pick(book, query);
     number(a.code as u64);
     number(a.place as u64);
@@ -54,8 +102,9 @@ pub fn pick(book: &[u8], query: &[u8]) -> bool {
     true
 }
 
-pub fn run(book: &[u8], query: &[u8], budget: u32, area: &mut [u8]) -> bool {
-    let a = engine::run::run(book, query, budget, area);
+fn answered(a: Answer, area: &[u8]) -> bool
+    ensures { λ r. ⌜ r ≡ true ⌝ }
+{
     number(a.code as u64);
     number(a.place as u64);
     number(a.steps as u64);
@@ -67,18 +116,34 @@ pub fn run(book: &[u8], query: &[u8], budget: u32, area: &mut [u8]) -> bool {
     true
 }
 
-pub fn run_for_c(book: &[u8], query: &[u8], budget: u32, area: &mut [u8]) -> bool {
+pub fn run(book: &[u8], query: &[u8], budget: u32, area: &mut [u8]) -> bool
+    ensures { λ r. ⌜ r ≡ true ⌝ }
+    ensures area { λ _. ⌜ now (area .exit) ≡ runArea (now (book .entry)) (now (query .entry)) budget (now (area .entry)) ⌝ }
+{
+    let a = engine::run::run(book, query, budget, area);
+    answered(a, area)
+}
+
+pub fn run_for_c(book: &[u8], query: &[u8], budget: u32, area: &mut [u8]) -> bool
+    ensures { λ r. ⌜ r ≡ true ⌝ }
+    ensures area { λ _. ⌜ now (area .exit) ≡ runArea (now (book .entry)) (now (query .entry)) budget (now (area .entry)) ⌝ }
+{
     number(engine::firmware::pitxargole_run(budget, book, query, area));
     last(sum(area));
     true
 }
 
-pub fn pick_for_c(book: &[u8], query: &[u8]) -> bool {
+pub fn pick_for_c(book: &[u8], query: &[u8]) -> bool
+    ensures { λ r. ⌜ r ≡ true ⌝ }
+{
     last(engine::firmware::pitxargole_pick(book, query));
     true
 }
 
-pub fn apply_for_c(book: &[u8], query: &[u8], clause: u32, area: &mut [u8]) -> bool {
+pub fn apply_for_c(book: &[u8], query: &[u8], clause: u32, area: &mut [u8]) -> bool
+    ensures { λ r. ⌜ r ≡ true ⌝ }
+    ensures area { λ _. ⌜ now (area .exit) ≡ applyArea (now (book .entry)) (now (query .entry)) clause (now (area .entry)) ⌝ }
+{
     number(engine::firmware::pitxargole_apply(clause, book, query, area));
     last(sum(area));
     true

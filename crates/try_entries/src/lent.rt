@@ -3,6 +3,11 @@
 // (1 byte each); the book's length (4 bytes), the book, and the query.
 use crate::entries;
 use crate::number;
+ghost use mathlib.Core.Path.{_≡_};
+ghost use mathlib.Core.Bool.{true};
+ghost use lib.ListN.{length};
+ghost use lib.Dec.{leb};
+ghost use Rattle.try_entries.specs.Item.{complete};
 
 fn next(byte: u8, more: u8) -> u8 {
     std::num::wrapping_add_u8(byte, more)
@@ -17,7 +22,9 @@ fn fill(area: &mut [u8], first: u8, more: u8) {
     }
 }
 
-fn call(entry: u8, number: u32, book: &[u8], query: &[u8], area: &mut [u8]) -> bool {
+fn call(entry: u8, number: u32, book: &[u8], query: &[u8], area: &mut [u8]) -> bool
+    ensures { λ r. ⌜ r ≡ true ⌝ }
+{
     match entry {
         3 => entries::step(book, query, area),
         4 => entries::run(book, query, number, area),
@@ -30,14 +37,19 @@ fn call(entry: u8, number: u32, book: &[u8], query: &[u8], area: &mut [u8]) -> b
 }
 
 // Book and query one behind the other.
-fn apart(entry: u8, number: u32, both: &[u8], book: usize, area: &mut [u8]) -> bool {
+fn apart(entry: u8, number: u32, both: &[u8], book: usize, area: &mut [u8]) -> bool
+    ensures { λ r. ⌜ r ≡ leb book (length (now (both .entry))) ⌝ }
+{
     if both.len() < book {
         return false;
     }
     call(entry, number, &both[0..book], &both[book..], area)
 }
 
-pub fn entry(entry: u8, item: &[u8], area: &mut [u8]) -> bool {
+// Whether the item has all that its entry is called with; then it is.
+pub fn entry(entry: u8, item: &[u8], area: &mut [u8]) -> bool
+    ensures { λ r. ⌜ r ≡ complete (now (item .entry)) (length (now (area .entry))) ⌝ }
+{
     if item.len() < 14 {
         return false;
     }

@@ -7,7 +7,6 @@
 mod entries;
 mod lent;
 mod number;
-mod print;
 
 use libc::STDIN_FILENO;
 use libc::STDOUT_FILENO;

@@ -2,8 +2,8 @@ use mathlib.Core.Path.{_≡_}
 use Prim.Native.Nat.{_-_}
 use lib.ListN.{length}
 use borrow.Author.Needs.{needs}
-use Rattle.try_entries.proofs.print.sum.Statement.{statement}
-use Rattle.try_entries.proofs.print.sum.Tie as tie
+use Rattle.try_entries.proofs.entries.sum.Statement.{statement}
+use Rattle.try_entries.proofs.entries.sum.Tie as tie
 
 abbrev Inv-loop : tie.InvT-loop
 Inv-loop bytes sum₀ i₀ i-end sum i = i-end ≡ length bytes

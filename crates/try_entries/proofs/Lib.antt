@@ -1,0 +1,2 @@
+-- Proofs about the items.
+pub mod Items

@@ -1,0 +1,2 @@
+-- What an item of the stream is.
+pub mod Item
