@@ -11,7 +11,7 @@ use lib.ListN.{length, length-append}
 use lib.Seq.{drop-at}
 use Rattle.terms.specs.Node.{Expr, same-expr}
 use Rattle.terms.specs.Cases.{cases}
-use Rattle.loops.specs.Path.{path-zero, path-on, carry}
+use Rattle.loops.specs.Path.{path-zero, path-on, front-next, carry}
 use Rattle.loops.specs.Detect.{State, start, Verdict, solved, loop, stuck, go-on, Judged, judged, detect-zero}
 use Rattle.loops.specs.Theorem.{went-on}
 use Rattle.search.specs.Next.{Book, Goal}
@@ -58,6 +58,14 @@ module _ (P : Book) where
         let (there, long) = answer-whole t g e in
         let (on, same) = next-answer-whole g h (answer-at P q t) n in
         answer-behind (suc t) h (next-answer P g (answer-at P q t)) (path-on (next-goal P) t (q ++ q) (g ++ answer-at P q t) there ∙ on) (same ∙ long)
+
+    -- where goal and answer go on as one, the goal does so by itself, and what stands behind is the next answer
+    pub answer-front : (t : ℕ) (g w : Goal) → goal-at P q t ≡ some g → 0 < length g → next-goal P (g ++ answer-at P q t) ≡ some w
+        → (h : Goal) × (next-goal P g ≡ some h) × (w ≡ h ++ answer-at P q (suc t))
+    answer-front t g w e l n =
+        let (h, on) = front-next (next-goal P) (lawful P) g (answer-at P q t) w l n in
+        let whole = next-answer-whole g h (answer-at P q t) on .0 in
+        (h, on, Option·some-injective w (h ++ next-answer P g (answer-at P q t)) (inv n ∙ whole) ∙ ap (λ a. h ++ a) (inv (answer-next t g h e on)))
 
     -- every answer is small one step further, if that there is
     pub slimmer : (t : ℕ) → small (answer-at P q (suc t)) ≡ true → Slim P q t → Slim P q (suc t)

@@ -4,6 +4,7 @@ use native.Mathlib.Omega.{arith}
 use mathlib.Core.Path.{_≡_, refl, sym as inv, ap, ap₂, _∙_, subst}
 use mathlib.Core.Bool.{true, false}
 use mathlib.Core.Option.{some}
+use mathlib.Core.List.{[]}
 use Rattle.terms.specs.Node.{Expr, same-expr}
 use Rattle.loops.specs.Detect.{State, saves, Judged, judged}
 use Rattle.search.specs.Next.{Book, Goal}
@@ -25,6 +26,14 @@ module _ (P : Book) (budget : ℕ) (q : Goal) where
   never-27 (code-24 f l h) e = omega arith
   never-27 (code-26 f n) e = omega arith
 
+  empty-20 : {s : State Expr} {c n : ℕ} → Closes P budget s c n → c ≡ 20 → s .goal ≡ []
+  empty-20 {s} (code-20 f) e = subst (Judged same-expr (next-goal P) s) f (judged same-expr (next-goal P) s)
+  empty-20 (code-21 f) e = absurd (omega arith)
+  empty-20 (code-22 f k) e = absurd (omega arith)
+  empty-20 (code-23 f l) e = absurd (omega arith)
+  empty-20 (code-24 f l h) e = absurd (omega arith)
+  empty-20 (code-26 f n) e = absurd (omega arith)
+
   module _ (r : Answered) (x : Answers P budget q r) where
     -- the goal is the path's at the closing step
     pub answers-goal : goal-at P q (r .steps) ≡ some (r .goal)
@@ -40,6 +49,14 @@ module _ (P : Book) (budget : ℕ) (q : Goal) where
     -- with no 27 it is the run of document 01, and the answer of its last step beside it
     pub answered-run : ¬ (r .code ≡ 27) → run P budget q ≡ closed r
     answered-run other = run-iff P budget q (closed r) .1 (answered-runs-as other)
+
+    -- "G empty, 20"
+    pub solved-empty : r .code ≡ 20 → r .goal ≡ []
+    solved-empty e = x .goal ∙ go (x .ends) e
+      where
+        go : {c n : ℕ} → Ends P q budget (x .state) c n → c ≡ 20 → x .state .goal ≡ []
+        go (as-before y) e = empty-20 y e
+        go (code-27 f l h m) e = absurd (omega arith)
 
   -- what code 27 says: the steps so far are those of a run that has used up its budget there; budget and room would let it go on, and "the next answer has over 4,096 nodes"
   pub record Full (r : Answered) : Type 0 where

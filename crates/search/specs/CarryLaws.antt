@@ -6,7 +6,7 @@ use mathlib.Core.Logic.{_↔_, inl, inr}
 use mathlib.Core.Option.{some, Option·some-injective, Option·none-ne-some}
 use mathlib.Core.List.{List, [], _∷_, _++_, map}
 use lib.ListN.{length, length-append, length-map, drop, take}
-use lib.Seq.{take-at, drop-append-seam}
+use lib.Seq.{take-at, drop-at}
 use Rattle.terms.specs.Node.{Expr}
 use Rattle.terms.specs.Row.{Row, Formulas}
 use Rattle.terms.specs.RowLaws.{every-append}
@@ -24,9 +24,10 @@ use Rattle.search.specs.PathLaws.{step-goal, path-formulas}
 use Rattle.search.specs.Answer.{Carried, Carries, none-yet, one-more, next-answer, answer-at}
 use Rattle.search.specs.AnswerLaws.{next-answer-whole, answer-zero, answer-whole, answer-next}
 
--- what follows one beginning is one
-behind-one : (h a b : Goal) → h ++ a ≡ h ++ b → a ≡ b
-behind-one h a b e = inv (drop-append-seam h a) ∙ ap (drop (length h)) e ∙ drop-append-seam h b
+-- equal lists with beginnings of one length
+pub split-alike : (a b c d : Goal) → a ++ b ≡ c ++ d → length a ≡ length c → (a ≡ c) × (b ≡ d)
+split-alike a b c d e l =
+    (inv (take-at a b (length c) l) ∙ ap (take (length c)) e ∙ take-at c d (length c) refl, inv (drop-at a b (length c) l) ∙ ap (drop (length c)) e ∙ drop-at c d (length c) refl)
 
 in-beginning : (v : ℕ) (g a : List Expr) → In-any v g → In-any v (g ++ a)
 in-beginning v (f ∷ g) a (inl i) = inl i
@@ -39,7 +40,7 @@ number-front h b front rest e l =
     let m = number-all (seen-all [] front) rest in
     let both : h ++ b ≡ n ++ m = e ∙ number-all-append [] front rest in
     let long : length h ≡ length n = omega (arith, length-append h b, length-append n m, ap length both, number-all-length (seen-all [] front) rest) in
-    inv (take-at h b (length n) long) ∙ ap (take (length n)) both ∙ take-at n m (length n) refl
+    split-alike h b n m both long .0
 
 -- One step.
 module _ (f : Expr) (g a : Goal) (c : Clause) (h b : Goal) where
@@ -92,7 +93,7 @@ module _ (f : Expr) (g a : Goal) (c : Clause) (h b : Goal) where
 
 -- The two are the same, for a book and a query of formulas.
 module _ (P : Book) (good : Clauses P) (q : Goal) (formulas : Formulas q) where
-  both-formulas : (t : ℕ) (g : Goal) → goal-at P q t ≡ some g → Formulas (g ++ answer-at P q t)
+  pub both-formulas : (t : ℕ) (g : Goal) → goal-at P q t ≡ some g → Formulas (g ++ answer-at P q t)
   both-formulas t g e = path-formulas P good (q ++ q) (every-append (Row 1) q q formulas formulas) t (g ++ answer-at P q t) (answer-whole P q t g e .0)
 
   carries-path : {t : ℕ} {g a : Goal} → Carries P q t g a → (goal-at P q t ≡ some g) × (a ≡ answer-at P q t)
@@ -104,7 +105,7 @@ module _ (P : Book) (good : Clauses P) (q : Goal) (formulas : Formulas q) where
       let two = next-iff P good ((f ∷ g) ++ a) rows k (h ++ b) .0 (c, first, carried-both f g a c h b s) in
       let whole = next-answer-whole P (f ∷ g) h a (ap goal-of one) .0 in (
         path-on (next-goal P) t q (f ∷ g) here ∙ ap goal-of one,
-        behind-one h b (next-answer P (f ∷ g) a) (Option·some-injective (h ++ b) (h ++ next-answer P (f ∷ g) a) (inv (ap goal-of two) ∙ whole))
+        split-alike h b h (next-answer P (f ∷ g) a) (Option·some-injective (h ++ b) (h ++ next-answer P (f ∷ g) a) (inv (ap goal-of two) ∙ whole)) refl .1
             ∙ ap (next-answer P (f ∷ g)) same ∙ inv (answer-next P q t (f ∷ g) h here (ap goal-of one)),
       )
 

@@ -41,7 +41,7 @@ symbols-append (var v ∷ a) b p q = symbols-append a b p q
 symbols-append (sym s ∷ a) b p q = (p .0, symbols-append a b (p .1) q)
 
 module _ (σ : Subst) (terms : (v : ℕ) → Term (σ v)) where
-  symbols-apply : (e : Expr) → Symbols Function e → Symbols Function (apply σ e)
+  pub symbols-apply : (e : Expr) → Symbols Function e → Symbols Function (apply σ e)
   symbols-apply [] p = tt
   symbols-apply (var v ∷ e) p = symbols-append (σ v) (apply σ e) (terms v .1) (symbols-apply e p)
   symbols-apply (sym s ∷ e) p = (p .0, symbols-apply e (p .1))
