@@ -9,6 +9,7 @@ use mathlib.Core.Option.{some, Option·some-injective}
 use mathlib.Core.List.{List, _++_}
 use lib.ListN.{length, length-append}
 use lib.Seq.{drop-at}
+use borrow.Author.Tests.{leb-true, leb-false, le-leb, lt-leb}
 use Rattle.terms.specs.Node.{Expr, same-expr}
 use Rattle.terms.specs.Cases.{cases}
 use Rattle.loops.specs.Path.{path-zero, path-on, front-next, carry}
@@ -17,11 +18,20 @@ use Rattle.loops.specs.Theorem.{went-on}
 use Rattle.search.specs.Next.{Book, Goal}
 use Rattle.search.specs.Step.{next-goal}
 use Rattle.search.specs.StepLaws.{lawful}
-use Rattle.search.specs.Room.{fits}
+use Rattle.search.specs.Room.{nodes, fits}
 use Rattle.search.specs.Known.{knows?, stuck-known, stuck-unknown}
 use Rattle.search.specs.Run.{verdict, goal-at, state-at, Roomy, Closes, code-20, code-21, code-22, code-23, code-24, code-26}
 use Rattle.search.specs.RunLaws.{state-sound, state-next, roomier, limit, closes-one}
 use Rattle.search.specs.Answer.{last, small, next-answer, answer-at, Answered, close-with, settle-with, answered-from, answered, Slim, Ends, as-before, code-27, Answers}
+
+-- the room of an answer, in numbers
+pub small-iff : (a : Goal) → (small a ≡ true) ↔ (nodes a ≤ 4096)
+unfolding small
+small-iff a = (leb-true (nodes a) 4096, le-leb (nodes a) 4096)
+
+pub large-iff : (a : Goal) → (small a ≡ false) ↔ (4096 < nodes a)
+unfolding small
+large-iff a = (leb-false (nodes a) 4096, lt-leb (nodes a) 4096)
 
 -- what stands behind a list is the last of it
 pub last-behind : {F : Type 0} (h r : List F) (n : ℕ) → length r ≡ n → last n (h ++ r) ≡ r

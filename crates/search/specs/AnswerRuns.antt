@@ -39,12 +39,15 @@ module _ (P : Book) (budget : ℕ) (q : Goal) where
     pub answers-goal : goal-at P q (r .steps) ≡ some (r .goal)
     answers-goal = state-sound P q (r .steps) (x .state) (x .reached) .1 ∙ ap some (inv (x .goal))
 
-    pub answered-runs-as : ¬ (r .code ≡ 27) → Runs P budget q (closed r)
-    answered-runs-as other = go (x .ends) other
+    pub answered-closes : ¬ (r .code ≡ 27) → Closes P budget (x .state) (r .code) (r .span)
+    answered-closes other = go (x .ends) other
       where
-        go : {c n : ℕ} → Ends P q budget (x .state) c n → ¬ (c ≡ 27) → Runs P budget q (record { code = c; steps = r .steps; span = n; goal = r .goal })
-        go (as-before e) other = record { state = x .state; reached = x .reached; allowed = x .allowed; roomy = x .roomy; goal = x .goal; closes = e }
+        go : {c n : ℕ} → Ends P q budget (x .state) c n → ¬ (c ≡ 27) → Closes P budget (x .state) c n
+        go (as-before e) other = e
         go (code-27 f l h m) other = absurd (other refl)
+
+    abbrev pub answered-runs-as : ¬ (r .code ≡ 27) → Runs P budget q (closed r)
+    answered-runs-as other = record { state = x .state; reached = x .reached; allowed = x .allowed; roomy = x .roomy; goal = x .goal; closes = answered-closes other }
 
     -- with no 27 it is the run of document 01, and the answer of its last step beside it
     pub answered-run : ¬ (r .code ≡ 27) → run P budget q ≡ closed r
