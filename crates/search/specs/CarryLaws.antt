@@ -15,7 +15,7 @@ use Rattle.terms.specs.Rename.{rename}
 use Rattle.terms.specs.Number.{seen-all, number-all}
 use Rattle.terms.specs.NumberLaws.{number-all-append, number-all-length}
 use Rattle.loops.specs.Path.{path-zero, path-on, path-back}
-use Rattle.search.specs.Next.{Clause, Book, Goal, Clauses, resolvent, Resolved}
+use Rattle.search.specs.Next.{Clause, Book, Goal, Clauses, First, resolvent, Resolved}
 use Rattle.search.specs.Step.{next, next-goal, goal-of}
 use Rattle.search.specs.StepLaws.{resolvent-more}
 use Rattle.search.specs.NextLaws.{next-iff}
@@ -45,7 +45,7 @@ number-front h b front rest e l =
 -- One step.
 module _ (f : Expr) (g a : Goal) (c : Clause) (h b : Goal) where
   -- the goal is resolved as it is by itself
-  carried-goal : Carried f g a c h b → Resolved f g c h
+  pub carried-goal : Carried f g a c h b → Resolved f g c h
   carried-goal x = record {
     goal-names = x .goal-names;
     clause-names = x .clause-names;
@@ -109,14 +109,20 @@ module _ (P : Book) (good : Clauses P) (q : Goal) (formulas : Formulas q) where
             ∙ ap (next-answer P (f ∷ g)) same ∙ inv (answer-next P q t (f ∷ g) h here (ap goal-of one)),
       )
 
+  -- a step of the path carries the answer on
+  pub carried-on : (t : ℕ) (f : Expr) (g h : Goal) → goal-at P q t ≡ some (f ∷ g) → next-goal P (f ∷ g) ≡ some h
+      → (k : ℕ) × (c : Clause) × First f P k c × Carried f g (answer-at P q t) c h (answer-at P q (suc t))
+  carried-on t f g h e n =
+      let a = answer-at P q t in
+      let b = next-answer P (f ∷ g) a in
+      let (whole, long) = next-answer-whole P (f ∷ g) h a n in
+      let (k, s) = step-goal (next P ((f ∷ g) ++ a)) (h ++ b) whole in
+      let (c, first, r) = next-iff P good ((f ∷ g) ++ a) (both-formulas t (f ∷ g) e) k (h ++ b) .1 s in
+      (k, c, first, subst (Carried f g a c h) (inv (answer-next P q t (f ∷ g) h e n)) (resolved-carried f g a c h b r long))
+
   carry-on : (t : ℕ) (g h : Goal) → goal-at P q t ≡ some g → next-goal P g ≡ some h → Carries P q t g (answer-at P q t) → Carries P q (suc t) h (answer-at P q (suc t))
   carry-on t [] h e n x = absurd (Option·none-ne-some h n)
-  carry-on t (f ∷ g) h e n x =
-      let a = answer-at P q t in
-      let (whole, long) = next-answer-whole P (f ∷ g) h a n in
-      let (k, s) = step-goal (next P ((f ∷ g) ++ a)) (h ++ next-answer P (f ∷ g) a) whole in
-      let (c, first, r) = next-iff P good ((f ∷ g) ++ a) (both-formulas t (f ∷ g) e) k (h ++ next-answer P (f ∷ g) a) .1 s in
-      subst (Carries P q (suc t) h) (inv (answer-next P q t (f ∷ g) h e n)) (one-more k c x first (resolved-carried f g a c h (next-answer P (f ∷ g) a) r long))
+  carry-on t (f ∷ g) h e n x = let (k, c, first, s) = carried-on t f g h e n in one-more k c x first s
 
   path-carries : (t : ℕ) (g : Goal) → goal-at P q t ≡ some g → Carries P q t g (answer-at P q t)
   path-carries zero g e =

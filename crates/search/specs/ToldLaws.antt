@@ -25,7 +25,7 @@ use Rattle.search.specs.Told.{Comes-back, After, Too-big, Closing, at-20
 -- For a book and a query of formulas, the query numbered, as checked ones are.
 module _ (P : Book) (good : Clauses P) (q : Goal) (formulas : Formulas q) (numbered : Numbered q) where
   -- what a verdict on a state says, in document 01's words
-  abbrev Turn : State Expr → Verdict Expr → Type 0
+  abbrev pub Turn : State Expr → Verdict Expr → Type 0
   Turn s solved = s .goal ≡ []
   Turn s (loop n) = Comes-back s × (n ≡ s .step - s .from)
   Turn s stuck = (f : Expr) × (g : Goal) × (s .goal ≡ f ∷ g) × (¬ Comes-back s) × None-meets f P
@@ -42,7 +42,7 @@ module _ (P : Book) (good : Clauses P) (q : Goal) (formulas : Formulas q) (numbe
         go [] p = absurd (n p)
         go (f ∷ g) p = (f, g, p, c, no-next P good f g (subst Formulas p (path-formulas P good q formulas t (s .goal) here) .0) (ap (next-goal P) (inv p) ∙ d))
 
-    turn : (v : Verdict Expr) → verdict P s ≡ v → Turn s v
+    pub turn : (v : Verdict Expr) → verdict P s ≡ v → Turn s v
     turn v f = go v f (subst (Judged same-expr (next-goal P) s) f (judged same-expr (next-goal P) s))
       where
         quiet : ¬ Detected s → ¬ Comes-back s
@@ -70,7 +70,7 @@ module _ (P : Book) (good : Clauses P) (q : Goal) (formulas : Formulas q) (numbe
   stuck-next {f} k h e m n = let x = subst (λ x. Next P x k h) e n in first-none P f k (x .0) m (x .1)
 
   -- a state that goes on in document 01's words does so for the detector
-  goes : (t : ℕ) (s s′ : State Expr) → state-at P q t ≡ some s → (k : ℕ) (h : Goal) → ¬ Comes-back s → Next P (s .goal) k h → After s h s′ → verdict P s ≡ go-on s′
+  pub goes : (t : ℕ) (s s′ : State Expr) → state-at P q t ≡ some s → (k : ℕ) (h : Goal) → ¬ Comes-back s → Next P (s .goal) k h → After s h s′ → verdict P s ≡ go-on s′
   goes t s s′ e k h c n a = go (verdict P s) refl (turn t s e (verdict P s) refl)
     where
       go : (v : Verdict Expr) → verdict P s ≡ v → Turn s v → verdict P s ≡ go-on s′
@@ -82,7 +82,7 @@ module _ (P : Book) (good : Clauses P) (q : Goal) (formulas : Formulas q) (numbe
           f ∙ ap go-on (after-is s (s″ .goal) s″ a′ ∙ ap (move (saves s) s) same ∙ inv (after-is s h s′ a))
 
   module _ (budget : ℕ) where
-    reached-state : (s : State Expr) → Reached P budget q s → (state-at P q (s .step) ≡ some s) × (s .step ≤ budget) × Roomy P q (s .step)
+    pub reached-state : (s : State Expr) → Reached P budget q s → (state-at P q (s .step) ≡ some s) × (s .step ≤ budget) × Roomy P q (s .step)
     reached-state s first = (detect-zero same-expr (next-goal P) q, omega arith, λ j g a b. absurd (omega arith))
     reached-state s′ (then {s = s} k h r c n l b a) =
         let (e, under, room) = reached-state s r in
@@ -92,7 +92,7 @@ module _ (P : Book) (good : Clauses P) (q : Goal) (formulas : Formulas q) (numbe
         let fit : fits (s′ .goal) ≡ true = cases (fits (s′ .goal)) (λ f. f) (λ f. absurd (b (big-iff h .0 (ap fits (inv same) ∙ f)))) in
         (ap (state-at P q) on ∙ there, omega arith, subst (Roomy P q) (inv on) (roomier P q (s .step) (s′ .goal) at fit room))
 
-    state-reached : (t : ℕ) (s : State Expr) → state-at P q t ≡ some s → t ≤ budget → Roomy P q t → Reached P budget q s
+    pub state-reached : (t : ℕ) (s : State Expr) → state-at P q t ≡ some s → t ≤ budget → Roomy P q t → Reached P budget q s
     state-reached zero s e l room = let o : start q ≡ s = cc (detect-zero same-expr (next-goal P) q) in subst (Reached P budget q) o first
     state-reached (suc t) s e l room =
         let (s₀, e₀, f) = detect-back same-expr (next-goal P) t q s e in
@@ -103,7 +103,7 @@ module _ (P : Book) (good : Clauses P) (q : Goal) (formulas : Formulas q) (numbe
 
     -- And they close alike.
 
-    closes-closing : (t : ℕ) (s : State Expr) → state-at P q t ≡ some s → (c n : ℕ) → Closes P budget s c n → Closing P budget s c n
+    pub closes-closing : (t : ℕ) (s : State Expr) → state-at P q t ≡ some s → (c n : ℕ) → Closes P budget s c n → Closing P budget s c n
     closes-closing t s e c n (code-20 f) = at-20 (turn t s e solved f)
     closes-closing t s e c n (code-21 f) = let z = turn t s e (loop n) f in subst (Closing P budget s 21) (inv (z .1)) (at-21 (z .0))
     closes-closing t s e c n (code-22 f k) = let (l, r, d, x, m) = turn t s e stuck f in at-22 l r d x m (subst (Knows P) d k)
@@ -111,7 +111,7 @@ module _ (P : Book) (good : Clauses P) (q : Goal) (formulas : Formulas q) (numbe
     closes-closing t s e c n (code-23 {s′ = s′} f b) = let (x, k, d, a) = turn t s e (go-on s′) f in at-23 k (s′ .goal) x d b
     closes-closing t s e c n (code-24 {s′ = s′} f b h) = let (x, k, d, a) = turn t s e (go-on s′) f in at-24 k (s′ .goal) x d (λ z. omega arith) (big-iff (s′ .goal) .0 h)
 
-    closing-closes : (s : State Expr) → s .step ≤ budget → (v : Verdict Expr) → verdict P s ≡ v → Turn s v → (c n : ℕ) → Closing P budget s c n → Closes P budget s c n
+    pub closing-closes : (s : State Expr) → s .step ≤ budget → (v : Verdict Expr) → verdict P s ≡ v → Turn s v → (c n : ℕ) → Closing P budget s c n → Closes P budget s c n
     closing-closes s l solved f z c n (at-20 e) = code-20 f
     closing-closes s l solved f z c n (at-21 b) = absurd (empty-back z b)
     closing-closes s l solved f z c n (at-22 a g e b m y) = absurd (nil≢cons (inv z ∙ e))
