@@ -9,7 +9,8 @@ use Rattle.loops.specs.Detect.{State}
 use Rattle.search.specs.Next.{Clause, Book, Goal, First}
 use Rattle.search.specs.Room.{nodes}
 use Rattle.search.specs.Told.{Comes-back, After, Too-big, Closing}
-use Rattle.search.specs.Answer.{Carried, Answered}
+use Rattle.search.specs.Codes.{Says}
+use Rattle.search.specs.Answer.{Carried, Answered, closed}
 
 -- h is the next goal, by the clause number k, and b the next answer
 abbrev pub Next-with : Book → Goal → Goal → ℕ → Goal → Goal → Type 0
@@ -39,3 +40,9 @@ module _ (P : Book) (budget : ℕ) where
     pub closing : Closing-with state (r .answer) (r .code) (r .span)
     pub steps : r .steps ≡ state .step
     pub goal : r .goal ≡ state .goal
+
+-- what each code of a run with its answer says, of the path without limits: what it says of the run of document 01, or, with 27, that a step is left, that the next goal has room, and that the
+-- next answer has none
+pub data Says-with (P : Book) (budget : ℕ) (q : Goal) (r : Answered) (s : State Expr) : ℕ → Type 0 where
+  says-20-to-26 : {c : ℕ} → Says P budget q (closed r) s c → Says-with P budget q r s c
+  full-27 : (k : ℕ) (h b : Goal) → Next-with P (r .goal) (r .answer) k h b → r .steps < budget → ¬ Too-big h → Too-long b → r .span ≡ 0 → Says-with P budget q r s 27

@@ -36,7 +36,7 @@ carries-with P q t (f ∷ g) a k h b x (c, i, s) = one-more k c x i s
 fits-true : (h : Goal) → ¬ Too-big h → fits h ≡ true
 fits-true h n = cases (fits h) (λ e. e) (λ e. absurd (n (big-iff h .0 e)))
 
-fits-small : (h : Goal) → fits h ≡ true → ¬ Too-big h
+pub fits-small : (h : Goal) → fits h ≡ true → ¬ Too-big h
 fits-small h e b = true≢false (inv e ∙ big-iff h .1 b)
 
 -- the state after s has the goal h and one step more
@@ -47,7 +47,7 @@ after-step (keep n) = (refl, refl)
 -- For a book and a query of formulas, the query numbered, as checked ones are.
 module _ (P : Book) (good : Clauses P) (q : Goal) (formulas : Formulas q) (numbered : Numbered q) where
   -- where the goal goes on, the answer does
-  next-both : (t : ℕ) (g : Goal) (k : ℕ) (h : Goal) → goal-at P q t ≡ some g → Next P g k h → Next-with P g (answer-at P q t) k h (answer-at P q (suc t))
+  pub next-both : (t : ℕ) (g : Goal) (k : ℕ) (h : Goal) → goal-at P q t ≡ some g → Next P g k h → Next-with P g (answer-at P q t) k h (answer-at P q (suc t))
   next-both t (f ∷ g) k h e n =
       let on = ap goal-of (next-iff P good (f ∷ g) (path-formulas P good q formulas t (f ∷ g) e) k h .0 n) in
       let (j, c, i, s) = carried-on P good q formulas t f g h e on in
