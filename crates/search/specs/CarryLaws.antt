@@ -5,11 +5,9 @@ use mathlib.Core.Path.{_≡_, refl, sym as inv, ap, _∙_, subst}
 use mathlib.Core.Logic.{_↔_, inl, inr}
 use mathlib.Core.Option.{some, Option·some-injective, Option·none-ne-some}
 use mathlib.Core.List.{List, [], _∷_, _++_, map}
-use lib.ListN.{length, length-append, length-map, drop, take}
-use lib.Seq.{take-at, drop-at}
+use lib.ListN.{length, length-append, length-map}
 use Rattle.terms.specs.Node.{Expr}
-use Rattle.terms.specs.Row.{Row, Formulas}
-use Rattle.terms.specs.RowLaws.{every-append}
+use Rattle.terms.specs.Row.{Formulas}
 use Rattle.terms.specs.Subst.{In-any, apply}
 use Rattle.terms.specs.Rename.{rename}
 use Rattle.terms.specs.Number.{seen-all, number-all}
@@ -22,12 +20,8 @@ use Rattle.search.specs.NextLaws.{next-iff}
 use Rattle.search.specs.Run.{goal-at}
 use Rattle.search.specs.PathLaws.{step-goal, path-formulas}
 use Rattle.search.specs.Answer.{Carried, Carries, none-yet, one-more, next-answer, answer-at}
-use Rattle.search.specs.AnswerLaws.{next-answer-whole, answer-zero, answer-whole, answer-next}
-
--- equal lists with beginnings of one length
-pub split-alike : (a b c d : Goal) → a ++ b ≡ c ++ d → length a ≡ length c → (a ≡ c) × (b ≡ d)
-split-alike a b c d e l =
-    (inv (take-at a b (length c) l) ∙ ap (take (length c)) e ∙ take-at c d (length c) refl, inv (drop-at a b (length c) l) ∙ ap (drop (length c)) e ∙ drop-at c d (length c) refl)
+use Rattle.search.specs.AnswerGoals.{split-alike, both-formulas}
+use Rattle.search.specs.AnswerLaws.{next-answer-whole, answer-zero, answer-next}
 
 in-beginning : (v : ℕ) (g a : List Expr) → In-any v g → In-any v (g ++ a)
 in-beginning v (f ∷ g) a (inl i) = inl i
@@ -93,14 +87,11 @@ module _ (f : Expr) (g a : Goal) (c : Clause) (h b : Goal) where
 
 -- The two are the same, for a book and a query of formulas.
 module _ (P : Book) (good : Clauses P) (q : Goal) (formulas : Formulas q) where
-  pub both-formulas : (t : ℕ) (g : Goal) → goal-at P q t ≡ some g → Formulas (g ++ answer-at P q t)
-  both-formulas t g e = path-formulas P good (q ++ q) (every-append (Row 1) q q formulas formulas) t (g ++ answer-at P q t) (answer-whole P q t g e .0)
-
   carries-path : {t : ℕ} {g a : Goal} → Carries P q t g a → (goal-at P q t ≡ some g) × (a ≡ answer-at P q t)
   carries-path none-yet = (path-zero (next-goal P) q, inv (answer-zero P q))
   carries-path (one-more {t = t} {f = f} {g = g} {a = a} k c {h = h} {b = b} x first s) =
       let (here, same) = carries-path x in
-      let rows = subst (λ y. Formulas ((f ∷ g) ++ y)) (inv same) (both-formulas t (f ∷ g) here) in
+      let rows = subst (λ y. Formulas ((f ∷ g) ++ y)) (inv same) (both-formulas P q good formulas t (f ∷ g) here) in
       let one = next-iff P good (f ∷ g) (path-formulas P good q formulas t (f ∷ g) here) k h .0 (c, first, carried-goal f g a c h b s) in
       let two = next-iff P good ((f ∷ g) ++ a) rows k (h ++ b) .0 (c, first, carried-both f g a c h b s) in
       let whole = next-answer-whole P (f ∷ g) h a (ap goal-of one) .0 in (
@@ -117,7 +108,7 @@ module _ (P : Book) (good : Clauses P) (q : Goal) (formulas : Formulas q) where
       let b = next-answer P (f ∷ g) a in
       let (whole, long) = next-answer-whole P (f ∷ g) h a n in
       let (k, s) = step-goal (next P ((f ∷ g) ++ a)) (h ++ b) whole in
-      let (c, first, r) = next-iff P good ((f ∷ g) ++ a) (both-formulas t (f ∷ g) e) k (h ++ b) .1 s in
+      let (c, first, r) = next-iff P good ((f ∷ g) ++ a) (both-formulas P q good formulas t (f ∷ g) e) k (h ++ b) .1 s in
       (k, c, first, subst (Carried f g a c h) (inv (answer-next P q t (f ∷ g) h e n)) (resolved-carried f g a c h b r long))
 
   carry-on : (t : ℕ) (g h : Goal) → goal-at P q t ≡ some g → next-goal P g ≡ some h → Carries P q t g (answer-at P q t) → Carries P q (suc t) h (answer-at P q (suc t))

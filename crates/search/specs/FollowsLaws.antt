@@ -20,7 +20,7 @@ use Rattle.search.specs.Resolution.{Atomics, Atomic-clauses, First-unify
 use Rattle.search.specs.Run.{goal-at}
 use Rattle.search.specs.Answer.{answer-at, Answered, Answers}
 use Rattle.search.specs.AnswerRuns.{answers-goal, solved-empty}
-use Rattle.search.specs.CarryLaws.{split-alike}
+use Rattle.search.specs.AnswerGoals.{split-alike, every-split}
 use Rattle.search.specs.Derivation.{Derivation, begins, goes-on, Among, Follows, by-clause, Model}
 use Rattle.search.specs.DerivationLaws.{map-after, map-itself, after-substitution, derivation-substitution, derivation-path, path-derivation}
 
@@ -28,14 +28,9 @@ first-among : (P : Book) (f : Expr) (k : ℕ) (c : Clause) → First-unifying f 
 first-among (d ∷ P) f zero c p = inl (inv (p .0))
 first-among (d ∷ P) f (suc k) c p = inr (first-among P f k c (p .1))
 
-module _ (Q : Expr → Type 0) where
-  every-split : (g h : List Expr) → Every Q (g ++ h) → Every Q g × Every Q h
-  every-split [] h p = (tt, p)
-  every-split (f ∷ g) h p = let r = every-split g h (p .1) in ((p .0, r .0), r .1)
-
-  every-among : (F : Expr → Expr) (l : List Expr) → Every Q (map F l) → (b : Expr) → Among b l → Q (F b)
-  every-among F (x ∷ l) p b (inl e) = subst (λ y. Q (F y)) (inv e) (p .0)
-  every-among F (x ∷ l) p b (inr i) = every-among F l (p .1) b i
+every-among : (Q : Expr → Type 0) (F : Expr → Expr) (l : List Expr) → Every Q (map F l) → (b : Expr) → Among b l → Q (F b)
+every-among Q F (x ∷ l) p b (inl e) = subst (λ y. Q (F y)) (inv e) (p .0)
+every-among Q F (x ∷ l) p b (inr i) = every-among Q F l (p .1) b i
 
 -- what follows holds wherever the clauses hold
 pub follows-model : (P : Book) (M : Expr → Type 0) → Model P M → {f : Expr} → Follows P f → M f
