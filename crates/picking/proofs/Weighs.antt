@@ -78,7 +78,7 @@ module _ {formula head : List ℕ} {k : ℕ} {f : Expr} (c : Clause) (p : GoalIn
       let y = starts-with head (c .head) [] (h .is) (h .formulas .0) (first-kind 64 head (c .head) [] (h .fit) (h .is) (h .atoms .0)) in
       v′ .answer _ _ s .number (λ z. v′ .other z _ _ s one-word) ∙ ap (λ u. clash (arityOf u) (drop 1 (rename goal-name f)) (drop 1 (rename clause-name (c .head)))) (left-word c p h b)
       ∙ named goal-name clause-name (predicate (getD formula 0 0 % 65536) (arityOf (getD formula 0 0))) f (c .head) (x .0) (y .0) (x .1)
-      (y .1 ∙ ap (λ u. sym (predicate (u % 65536) (arityOf u)) ∷ y .0) same) (p .formulas .0) (h .formulas .0) (names-apart formula 1 (f ∷ []) p (c .head ∷ []))
+      (y .1 ∙ ap (λ u. sym (predicate (u % 65536) (arityOf u)) ∷ y .0) same) (p .formulas .0) (h .formulas .0) (names-apart head _ 0 (headed c) h (f ∷ []))
 
 -- the first word of a head in the book
 pub head-first : (book : List ℕ) (s e : ℕ) → s < e → getD (take (e - s) (drop s book)) 0 0 ≡ getD book s 0

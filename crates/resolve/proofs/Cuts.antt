@@ -2,12 +2,14 @@
 use Prim.Native.Nat.{ℕ, zero, suc, _+_, _*_, _-_, _≤_, _<_}
 use native.Mathlib.Omega.{arith}
 use mathlib.Core.Path.{_≡_, refl, sym as inv, ap, _∙_, subst}
+use mathlib.Core.Bool.{false, true≢false}
 use mathlib.Core.List.{List, [], _∷_}
 use lib.ListN.{length, getD, take, drop}
-use lib.Seq.{length-take-le, getD-take}
+use lib.Seq.{length-take-le, getD-take, take-take}
 use Rattle.terms.specs.Node.{Expr}
 use Rattle.search.specs.Next.{Book, Goal, Clauses, First, None-meets, Resolved, no-clause, clause-at}
 use Rattle.search.specs.Step.{stuck, to, next}
+use Rattle.search.specs.Answer.{small}
 use Rattle.search.specs.NextLaws.{next-iff, stuck-iff}
 use Rattle.search.specs.SingleLaws.{clauses-drop}
 use Rattle.words.specs.Columns.{every, every-length, every-at}
@@ -15,7 +17,7 @@ use Rattle.words.specs.Held.{GoalIn, Placed, starts, heads, bodies, BookOn}
 use Rattle.words.specs.HeldLaws.{clauses-of}
 use Rattle.picking.specs.Picking.{Picked}
 use Rattle.resolve.specs.declared.Move.{Move}
-use Rattle.resolve.specs.declared.Move.the-variants.{Stuck, Unknown, Full, To}
+use Rattle.resolve.specs.declared.Move.the-variants.{Stuck, Unknown, Full, Over, To}
 use Rattle.resolve.specs.Advancing.{Follows, Alone}
 
 -- A shelf cut behind the clause number k is of the book's first clauses, up to k.
@@ -67,6 +69,12 @@ only-one [] k l = absurd (omega arith)
 only-one (c ∷ P) zero l = refl
 only-one (c ∷ P) (suc k) l = only-one P k (omega arith)
 
+-- where there is no answer, none is too big
+no-answer-small : (b : Goal) → length b ≡ 0 → small b ≡ false → ⊥
+unfolding small
+no-answer-small [] e f = true≢false f
+no-answer-small (x ∷ b) e f = absurd (omega arith)
+
 -- that clause is tried, on the shelf that is cut
 module _ {book shelf : List ℕ} {P : Book} (b : BookOn book shelf P) (k : ℕ) (l : k < length P) {formulas : ℕ} {goal : List ℕ} (f : Expr) (g : Goal) (p : GoalIn goal formulas (f ∷ g)) (i : ℕ)
     (picked : Picked f (take (suc k) P) k i) where
@@ -86,8 +94,9 @@ module _ {book shelf : List ℕ} {P : Book} (b : BookOn book shelf P) (k : ℕ) 
         next-iff (clause-at P k ∷ []) alone-clauses (f ∷ g) (p .formulas) (i - k) r .0
         (clause-at (take (suc k) P) i, subst (λ Q. First f Q (i - k) (clause-at (take (suc k) P) i)) (only-one P k l) (picked .found cut-within), x)
 
-    pub alone : (out : List ℕ) (r : Move) → Follows (take (suc k) P) i f g out r → Alone P k (f ∷ g) out r
+    pub alone : (out : List ℕ) (r : Move) → Follows (take (suc k) P) i f g [] out r → Alone P k (f ∷ g) out r
     alone out (Stuck j a) x = absurd x
     alone out Unknown x = absurd x
     alone out Full x = (i - k, x .0, alone-to (x .0) (x .1), x .2)
-    alone out (To j r n) x = (i - k, x .1 .0, alone-to (x .1 .0) (x .1 .1), x .1 .2, x .1 .3, x .1 .4)
+    alone out Over (r, b, o, fit, big) = absurd (no-answer-small b (o .as-many) big)
+    alone out (To j r s n) (e, (h, b, o, fit, little, held, within)) = (i - k, h, alone-to h (o .goal), fit, subst (λ w. GoalIn w n h) (take-take r (r + s) out (omega arith)) (held .goal), omega arith)
