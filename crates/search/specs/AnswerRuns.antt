@@ -53,6 +53,22 @@ module _ (P : Book) (budget : ℕ) (q : Goal) where
     pub answered-run : ¬ (r .code ≡ 27) → run P budget q ≡ closed r
     answered-run other = run-iff P budget q (closed r) .1 (answered-runs-as other)
 
+    -- "Only code 21 has a span other than 0"
+    pub answers-span : ¬ (r .code ≡ 21) → r .span ≡ 0
+    answers-span n = go (x .ends) n
+      where
+        bare : {s : State Expr} {c i : ℕ} → Closes P budget s c i → ¬ (c ≡ 21) → i ≡ 0
+        bare (code-20 f) n = refl
+        bare (code-21 f) n = absurd (n refl)
+        bare (code-22 f k) n = refl
+        bare (code-23 f l) n = refl
+        bare (code-24 f l h) n = refl
+        bare (code-26 f k) n = refl
+
+        go : {c i : ℕ} → Ends P q budget (x .state) c i → ¬ (c ≡ 21) → i ≡ 0
+        go (as-before y) n = bare y n
+        go (code-27 f l h m) n = refl
+
     -- "G empty, 20"
     pub solved-empty : r .code ≡ 20 → r .goal ≡ []
     solved-empty e = x .goal ∙ go (x .ends) e
