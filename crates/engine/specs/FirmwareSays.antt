@@ -24,13 +24,13 @@ module _ (a : Answer) where
   field-bytes : 20 ≤ a .code → field a ≡ a .bytes
   field-bytes h = ap (λ b. b ⇒ a .place ∣ a .bytes) (le-ltb (a .code) 20 h)
 
-module _ (book query : List ℕ) (budget : ℕ) (area : List ℕ) where
+module _ (book query : List ℕ) (budget : ℕ) (area space : List ℕ) where
   abbrev answer : Answer
-  answer = runAnswer book query budget area
+  answer = runAnswer book query budget area space
 
   -- a refused run: its code and its place
   pub number-refused : answer .code < 20 → number answer ≡ answer .code + 256 * answer .place
-  number-refused l = omega (arith, field-place answer l, run-refuses book query budget area l .0)
+  number-refused l = omega (arith, field-place answer l, run-refuses book query budget area space l .0)
 
   -- any other: its code, its bytes and its steps
   pub number-taken : 20 ≤ answer .code → number answer ≡ answer .code + 256 * answer .bytes + 4294967296 * answer .steps
@@ -39,8 +39,8 @@ module _ (book query : List ℕ) (budget : ℕ) (area : List ℕ) where
   -- the parts come back
   pub number-parts : Bytes query → (number answer % 256 ≡ answer .code) × (number answer / 256 % 2 ^ 24 ≡ field answer) × (number answer / 2 ^ 32 ≡ answer .steps)
   number-parts bytes =
-      let c : answer .code < 256 = omega (arith, answer-code book query budget area) in
-      let f = field-narrow answer (run-narrow book query budget area bytes) in
+      let c : answer .code < 256 = omega (arith, answer-code book query budget area space) in
+      let f = field-narrow answer (run-narrow book query budget area space bytes) in
       (code-back (answer .code) (field answer) (answer .steps) c f, field-back (answer .code) (field answer) (answer .steps) c f, steps-back (answer .code) (field answer) (answer .steps) c f)
 
 -- The pick: the place where it is refused, with 22 the two figures, and the clause number otherwise.

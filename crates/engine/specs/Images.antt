@@ -2,14 +2,14 @@
 -- and a good goal, in an area that is long enough, each entry answers what its definition says of them. Nothing is said of refusals there.
 use Prim.Native.Nat.{ℕ, _≤_}
 use native.Mathlib.Omega.{arith}
-use mathlib.Core.Path.{_≡_, ap, ap₂, _∙_}
+use mathlib.Core.Path.{_≡_, ap, ap₂, _∙_, subst}
 use mathlib.Core.Logic.{_↔_}
 use mathlib.Core.List.{List}
 use lib.ListN.{length}
 use Rattle.search.specs.Next.{Book, Goal}
-use Rattle.search.specs.Run.{Closed, run}
-use Rattle.search.specs.Told.{Told}
-use Rattle.search.specs.ToldLaws.{run-told}
+use Rattle.search.specs.Answer.{Answered, answered}
+use Rattle.search.specs.AnswerTold.{Told-with}
+use Rattle.search.specs.AnswerToldLaws.{answered-told}
 use Rattle.search.specs.Single.{Single, step}
 use Rattle.search.specs.Furthest.{no-figures}
 use Rattle.search.specs.Pick.{pick, apply-by}
@@ -20,7 +20,7 @@ use Rattle.records.proofs.Meaning.{book-written, query-written}
 use Rattle.records.proofs.Decoding.{bookOf-good, goalOf-good, bookOf-image, goalOf-image}
 use Rattle.records.proofs.Premises.{book-clauses, goal-premises}
 use Rattle.engine.specs.declared.admit.Admitted.{Admitted}
-use Rattle.engine.specs.Outcome.{refusal, over, ended, runAnswer, runArea, stepped, stepSaid, leaves, stepAnswer, stepArea, pickSaid, pickAnswer, applyAnswer, applyArea}
+use Rattle.engine.specs.Outcome.{refusal, over, room, ended, runAnswer, runArea, runAnswerArea, stepped, stepSaid, leaves, stepAnswer, stepArea, pickSaid, pickAnswer, applyAnswer, applyArea}
 use Rattle.engine.specs.Refusals.{query-decides, Good, not-refused}
 use Rattle.engine.specs.Stepping as Stepping
 use Rattle.engine.specs.Running as Running
@@ -71,16 +71,21 @@ module _ (P : Book) (good-book : GoodBook P) (q : Goal) (good-goal : GoodGoal q)
         Stepping.single-written (encodeBook P) (encodeGoal q) area nothing-refused it ∙ ap (λ (s : Single). leaves (s .written) area) same,
       )
 
-  module _ (budget : ℕ) where
-    pub run-of-good : (runAnswer (encodeBook P) (encodeGoal q) budget area ≡ ended P (run P budget q)) × (runArea (encodeBook P) (encodeGoal q) budget area ≡ over (encodeGoal (run P budget q .goal)) area)
-    run-of-good =
-        let same : run (bookOf (encodeBook P)) budget (goalOf (encodeGoal q)) ≡ run P budget q = ap₂ (λ b g. run b budget g) (bookOf-image P good-book) (goalOf-image q good-goal) in
-        (Running.answer-taken (encodeBook P) (encodeGoal q) budget area nothing-refused ∙ ap₂ (λ b g. ended b (run b budget g)) (bookOf-image P good-book) (goalOf-image q good-goal), Running.area-taken (encodeBook P) (encodeGoal q) budget area nothing-refused ∙ ap (λ (c : Closed). over (encodeGoal (c .goal)) area) same)
+-- the run, which is lent an answer area too
+module _ (P : Book) (good-book : GoodBook P) (q : Goal) (good-goal : GoodGoal q) (area space : List ℕ) (long : 16387 ≤ room area space) (budget : ℕ) where
+  abbrev Leaves : Answered → Type 0
+  Leaves c = Running.Leaves P c area space (runAnswer (encodeBook P) (encodeGoal q) budget area space) (runArea (encodeBook P) (encodeGoal q) budget area space) (runAnswerArea (encodeBook P) (encodeGoal q) budget area space)
 
-    -- the same by document 01's "Detection states", told as a relation
-    pub run-as-told : (c : Closed) → Told P budget q c
-        → (runAnswer (encodeBook P) (encodeGoal q) budget area ≡ ended P c) × (runArea (encodeBook P) (encodeGoal q) budget area ≡ over (encodeGoal (c .goal)) area)
-    run-as-told c told =
-        let premises = goal-premises q good-goal in
-        let same = run-told P (book-clauses P good-book) q (premises .0) (premises .1) budget c .1 told in
-        (run-of-good .0 ∙ ap (ended P) same, run-of-good .1 ∙ ap (λ (c : Closed). over (encodeGoal (c .goal)) area) same)
+  pub run-of-good : Leaves (answered P budget q)
+  run-of-good =
+      let z = room-enough P good-book q good-goal (room area space) long in
+      let same : answered (bookOf (encodeBook P)) budget (goalOf (encodeGoal q)) ≡ answered P budget q = ap₂ (λ b g. answered b budget g) (bookOf-image P good-book) (goalOf-image q good-goal) in
+      record {
+        answer = Running.answer-taken (encodeBook P) (encodeGoal q) budget area space z ∙ ap₂ (λ b g. ended b (answered b budget g)) (bookOf-image P good-book) (goalOf-image q good-goal);
+        area = Running.area-taken (encodeBook P) (encodeGoal q) budget area space z ∙ ap (λ (c : Answered). over (encodeGoal (c .goal)) area) same;
+        answer-area = Running.answer-area-taken (encodeBook P) (encodeGoal q) budget area space z ∙ ap (λ (c : Answered). over (encodeGoal (c .answer)) space) same;
+      }
+
+  -- the same by document 01's "Detection states" and document 02's C-11, told as a relation
+  pub run-as-told : (c : Answered) → Told-with P budget q c → Leaves c
+  run-as-told c told = let premises = goal-premises q good-goal in subst Leaves (answered-told P (book-clauses P good-book) q (premises .0) (premises .1) budget c .1 told) run-of-good

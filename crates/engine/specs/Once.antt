@@ -5,7 +5,7 @@ use mathlib.Core.List.{List}
 use Rattle.engine.specs.declared.Answer.{Answer}
 use Rattle.engine.specs.declared.Picked.{Picked}
 use Rattle.engine.specs.declared.Stepped.{Stepped}
-use Rattle.engine.specs.Outcome.{stepAnswer, stepArea, pickAnswer, applyAnswer, applyArea, runAnswer, runArea}
+use Rattle.engine.specs.Outcome.{stepAnswer, stepArea, pickAnswer, applyAnswer, applyArea, runAnswer, runArea, runAnswerArea}
 use Rattle.engine.specs.Firmware.{number}
 use Rattle.engine.specs.CallNumbers.{pickNumber, applyNumber}
 
@@ -17,14 +17,20 @@ pub step-once : (book query area : List ℕ) {r r′ : Stepped} {after after′ 
     r′ ≡ stepAnswer book query area → after′ ≡ stepArea book query area → (r ≡ r′) × (after ≡ after′)
 step-once book query area = settled
 
-module _ (book query : List ℕ) (budget : ℕ) (area : List ℕ) where
-  pub run-once : {r r′ : Answer} {after after′ : List ℕ} → r ≡ runAnswer book query budget area → after ≡ runArea book query budget area →
-      r′ ≡ runAnswer book query budget area → after′ ≡ runArea book query budget area → (r ≡ r′) × (after ≡ after′)
-  run-once = settled
+-- A run settles its goal area and its answer area (document 02, C-11).
+module _ (book query : List ℕ) (budget : ℕ) (area space : List ℕ) where
+  -- the contract, of an answer made from the seven figures in whatever way
+  abbrev Outcome : {A : Type 0} → (Answer → A) → A → List ℕ → List ℕ → Type 0
+  Outcome told r after filled = (r ≡ told (runAnswer book query budget area space)) × (after ≡ runArea book query budget area space) × (filled ≡ runAnswerArea book query budget area space)
 
-  pub firmware-once : {r r′ : ℕ} {after after′ : List ℕ} → r ≡ number (runAnswer book query budget area) → after ≡ runArea book query budget area →
-      r′ ≡ number (runAnswer book query budget area) → after′ ≡ runArea book query budget area → (r ≡ r′) × (after ≡ after′)
-  firmware-once = settled
+  one : {A : Type 0} (told : Answer → A) {r r′ : A} {after after′ filled filled′ : List ℕ} → Outcome told r after filled → Outcome told r′ after′ filled′ → (r ≡ r′) × (after ≡ after′) × (filled ≡ filled′)
+  one told (p, q, s) (p′, q′, s′) = (p ∙ inv p′, q ∙ inv q′, s ∙ inv s′)
+
+  pub run-once : {r r′ : Answer} {after after′ filled filled′ : List ℕ} → Outcome (λ a. a) r after filled → Outcome (λ a. a) r′ after′ filled′ → (r ≡ r′) × (after ≡ after′) × (filled ≡ filled′)
+  run-once = one (λ a. a)
+
+  pub firmware-once : {r r′ : ℕ} {after after′ filled filled′ : List ℕ} → Outcome number r after filled → Outcome number r′ after′ filled′ → (r ≡ r′) × (after ≡ after′) × (filled ≡ filled′)
+  firmware-once = one number
 
 -- The two calls of a single step (document 02, C-16).
 module _ (book query : List ℕ) where

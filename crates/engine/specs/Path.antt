@@ -27,7 +27,7 @@ use Rattle.records.proofs.Meaning.{query-written}
 use Rattle.records.proofs.Premises.{book-clauses, goal-premises}
 use Rattle.areas.specs.GoodGoals.{book-atomic, goal-atomics}
 use Rattle.engine.specs.declared.Stepped.{Stepped}
-use Rattle.engine.specs.Outcome.{stepped, stepSaid, leaves, stepAnswer, stepArea, runAnswer, runArea}
+use Rattle.engine.specs.Outcome.{room, stepped, stepSaid, leaves, stepAnswer, stepArea, runAnswer, runArea}
 use Rattle.engine.specs.Images.{step-of-good}
 use Rattle.engine.specs.StepSays.{StepSays, solved, stuck, unknown, full, went, step-taken, step-says}
 use Rattle.engine.specs.RunSays as RunSays
@@ -43,22 +43,24 @@ went-by (full k h n b) c = absurd (omega arith)
 went-by {area = area} (went k h n l m) c = (h, n, take-append-seam (encodeGoal h) (drop (length (encodeGoal h)) area))
 
 -- with code 23 the budget is used up
-spent-all : {P : Book} {budget steps : ℕ} {g : Goal} {c n : ℕ} {w : Figures} → Means P budget steps g c n w → c ≡ 23 → steps ≡ budget
+spent-all : {P : Book} {budget steps : ℕ} {g a : Goal} {c n : ℕ} {w : Figures} → Means P budget steps g a c n w → c ≡ 23 → steps ≡ budget
 spent-all (RunSays.solved e) k = absurd (omega arith)
 spent-all (RunSays.loop f g e y) k = absurd (omega arith)
 spent-all (RunSays.stuck f g e n i w x) k = absurd (omega arith)
 spent-all (RunSays.unknown f g e n i) k = absurd (omega arith)
 spent-all (RunSays.spent j h n e) k = e
 spent-all (RunSays.full j h n l b) k = absurd (omega arith)
+spent-all (RunSays.long j h b n l f t) k = absurd (omega arith)
 
--- with codes 20, 22 and 24 no step can be taken
-no-step : {P : Book} {budget steps : ℕ} {g : Goal} {c n : ℕ} {w : Figures} → Means P budget steps g c n w → (c ≡ 21 → ⊥) → (c ≡ 23 → ⊥) → Steps 0 P g (not-taken c)
-no-step (RunSays.solved e) l s = solved-20 e
-no-step (RunSays.loop f g e y) l s = absurd (l refl)
-no-step (RunSays.stuck f g e n k w x) l s = stuck-22 f g e n k
-no-step (RunSays.unknown f g e n k) l s = unknown-26 f g e n k
-no-step (RunSays.spent k h n e) l s = absurd (s refl)
-no-step (RunSays.full k h n e b) l s = full-24 k h (record { later = k; number = omega arith; next = n }) (big-iff h .1 b)
+-- with codes 20, 22, 24 and 26 no step can be taken
+no-step : {P : Book} {budget steps : ℕ} {g a : Goal} {c n : ℕ} {w : Figures} → Means P budget steps g a c n w → (c ≡ 21 → ⊥) → (c ≡ 23 → ⊥) → (c ≡ 27 → ⊥) → Steps 0 P g (not-taken c)
+no-step (RunSays.solved e) l s b = solved-20 e
+no-step (RunSays.loop f g e y) l s b = absurd (l refl)
+no-step (RunSays.stuck f g e n k w x) l s b = stuck-22 f g e n k
+no-step (RunSays.unknown f g e n k) l s b = unknown-26 f g e n k
+no-step (RunSays.spent k h n e) l s b = absurd (s refl)
+no-step (RunSays.full k h n e b) l s t = full-24 k h (record { later = k; number = omega arith; next = n }) (big-iff h .1 b)
+no-step (RunSays.long k h b n e f m) l s t = absurd (t refl)
 
 -- bytes that are a good query, and the goal that they are the image of
 pub record GoodQuery (image : List ℕ) (g : Goal) : Type 0 where
@@ -124,34 +126,36 @@ module _ (book query : List ℕ) (book-bytes : Bytes book) (query-bytes : Bytes 
       pub path-steps : (t : ℕ) (g : Goal) → goal-at P q t ≡ some g → Roomy P q t → StepsTo book query t (encodeGoal g)
       path-steps t g e room = transport (as-images t (encodeGoal g)) (gets-there P (good-P .0) q (good-q .0) area long t g e room)
 
-      -- a run leaves what as many single steps write, with whatever code it closes
-      pub run-is-steps : (budget : ℕ) → let r = runAnswer book query budget area in StepsTo book query (r .steps) (take (r .bytes) (runArea book query budget area))
-      run-is-steps budget =
-          subst (λ b. StepsTo b query (runAnswer b query budget area .steps) (take (runAnswer b query budget area .bytes) (runArea b query budget area))) (good-P .1)
-          (subst (λ g. StepsTo (encodeBook P) g (runAnswer (encodeBook P) g budget area .steps) (take (runAnswer (encodeBook P) g budget area .bytes) (runArea (encodeBook P) g budget area))) (good-q .1)
-          (run-gets-there P (good-P .0) q (good-q .0) area long budget))
+  -- The run, which carries an answer beside the goal.
+  module _ (area space : List ℕ) (long : 16387 ≤ room area space) where
+    -- a run leaves what as many single steps write, with whatever code it closes
+    pub run-is-steps : (budget : ℕ) → let r = runAnswer book query budget area space in StepsTo book query (r .steps) (take (r .bytes) (runArea book query budget area space))
+    run-is-steps budget =
+        subst (λ b. StepsTo b query (runAnswer b query budget area space .steps) (take (runAnswer b query budget area space .bytes) (runArea b query budget area space))) (good-P .1)
+        (subst (λ g. StepsTo (encodeBook P) g (runAnswer (encodeBook P) g budget area space .steps) (take (runAnswer (encodeBook P) g budget area space .bytes) (runArea (encodeBook P) g budget area space))) (good-q .1)
+        (run-gets-there P (good-P .0) q (good-q .0) area space long budget))
 
-      -- so its image is a good query too, of the path's goal there
-      pub run-leaves : (budget : ℕ) → let r = runAnswer book query budget area in (g : Goal) × (goal-at P q (r .steps) ≡ some g) × GoodQuery (take (r .bytes) (runArea book query budget area)) g
-      run-leaves budget = let r = runAnswer book query budget area in steps-path (r .steps) (take (r .bytes) (runArea book query budget area)) (run-is-steps budget)
+    -- so its image is a good query too, of the path's goal there
+    pub run-leaves : (budget : ℕ) → let r = runAnswer book query budget area space in (g : Goal) × (goal-at P q (r .steps) ≡ some g) × GoodQuery (take (r .bytes) (runArea book query budget area space)) g
+    run-leaves budget = let r = runAnswer book query budget area space in steps-path (r .steps) (take (r .bytes) (runArea book query budget area space)) (run-is-steps budget)
 
-      -- where it closes with 23, these are as many as the budget
-      pub run-spends : (budget : ℕ) → let r = runAnswer book query budget area in r .code ≡ 23 → StepsTo book query budget (take (r .bytes) (runArea book query budget area))
-      run-spends budget c = subst (λ t. StepsTo book query t (take (runAnswer book query budget area .bytes) (runArea book query budget area)))
-          (spent-all (run-means book query budget area book-bytes query-bytes (omega (arith, c)) .means) c) (run-is-steps budget)
+    -- where it closes with 23, these are as many as the budget
+    pub run-spends : (budget : ℕ) → let r = runAnswer book query budget area space in r .code ≡ 23 → StepsTo book query budget (take (r .bytes) (runArea book query budget area space))
+    run-spends budget c = subst (λ t. StepsTo book query t (take (runAnswer book query budget area space .bytes) (runArea book query budget area space)))
+        (spent-all (run-means book query budget area space book-bytes query-bytes (omega (arith, c)) .means) c) (run-is-steps budget)
 
-      -- where it closes with 20, 22, 24 or 26, a single step from what it leaves says the same, and writes nothing
-      pub run-ends : (budget : ℕ) → let r = runAnswer book query budget area in 20 ≤ r .code → (r .code ≡ 21 → ⊥) → (r .code ≡ 23 → ⊥) → (lent : List ℕ) → 16387 ≤ length lent
-          → let image = take (r .bytes) (runArea book query budget area) in
-          (stepAnswer book image lent ≡ record { code = r .code; place = 0; steps = 0; span = 0; bytes = 0; clause = 0; furthest = r .furthest; argument = r .argument }) × (stepArea book image lent ≡ lent)
-      run-ends budget high other spent lent enough =
-          let says = run-means book query budget area book-bytes query-bytes high in
-          let left = run-leaves budget in
-          let g = left .0 in
-          let same : says .goal ≡ g = Option·some-injective (says .goal) g (inv (says .reached) ∙ left .1) in
-          let stays = step-iff 0 P (book-clauses P (good-P .0)) g (goal-premises g (left .2 .good) .0) (not-taken (runAnswer book query budget area .code)) .1
-          (subst (λ h. Steps 0 P h (not-taken (runAnswer book query budget area .code))) same (no-step (says .means) other spent)) in
-          let o = step-of-good P (good-P .0) g (left .2 .good) lent enough in (
-            ap₂ (λ b i. stepAnswer b i lent) (inv (good-P .1)) (inv (left .2 .is)) ∙ o .0 ∙ ap (stepSaid P g) stays ∙ ap (λ w. stepped w (not-taken (runAnswer book query budget area .code))) (run-figures book query budget area book-bytes query-bytes high g (left .1)),
-            ap₂ (λ b i. stepArea b i lent) (inv (good-P .1)) (inv (left .2 .is)) ∙ o .1 ∙ ap (λ (s : Single). leaves (s .written) lent) stays,
-          )
+    -- where it closes with 20, 22, 24 or 26, a single step from what it leaves says the same, and writes nothing
+    pub run-ends : (budget : ℕ) → let r = runAnswer book query budget area space in 20 ≤ r .code → (r .code ≡ 21 → ⊥) → (r .code ≡ 23 → ⊥) → (r .code ≡ 27 → ⊥) → (lent : List ℕ) → 16387 ≤ length lent
+        → let image = take (r .bytes) (runArea book query budget area space) in
+        (stepAnswer book image lent ≡ record { code = r .code; place = 0; steps = 0; span = 0; bytes = 0; clause = 0; furthest = r .furthest; argument = r .argument }) × (stepArea book image lent ≡ lent)
+    run-ends budget high other spent fits lent enough =
+        let says = run-means book query budget area space book-bytes query-bytes high in
+        let left = run-leaves budget in
+        let g = left .0 in
+        let same : says .goal ≡ g = Option·some-injective (says .goal) g (inv (says .reached) ∙ left .1) in
+        let stays = step-iff 0 P (book-clauses P (good-P .0)) g (goal-premises g (left .2 .good) .0) (not-taken (runAnswer book query budget area space .code)) .1
+        (subst (λ h. Steps 0 P h (not-taken (runAnswer book query budget area space .code))) same (no-step (says .means) other spent fits)) in
+        let o = step-of-good P (good-P .0) g (left .2 .good) lent enough in (
+          ap₂ (λ b i. stepAnswer b i lent) (inv (good-P .1)) (inv (left .2 .is)) ∙ o .0 ∙ ap (stepSaid P g) stays ∙ ap (λ w. stepped w (not-taken (runAnswer book query budget area space .code))) (run-figures book query budget area space book-bytes query-bytes high g (left .1)),
+          ap₂ (λ b i. stepArea b i lent) (inv (good-P .1)) (inv (left .2 .is)) ∙ o .1 ∙ ap (λ (s : Single). leaves (s .written) lent) stays,
+        )

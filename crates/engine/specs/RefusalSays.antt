@@ -15,62 +15,66 @@ use Rattle.records.proofs.Refusals.{refused-iff}
 use Rattle.engine.specs.declared.Answer.{Answer}
 use Rattle.engine.specs.declared.Stepped.{Stepped}
 use Rattle.engine.specs.declared.admit.Admitted.{Admitted}
-use Rattle.engine.specs.Outcome.{refusal, refused, runAnswer, runArea, stepRefused, stepAnswer, stepArea}
+use Rattle.engine.specs.Outcome.{refusal, room, refused, runAnswer, runArea, runAnswerArea, stepRefused, stepAnswer, stepArea}
 use Rattle.engine.specs.Refusals.{area-short, book-decides, query-decides}
 use Rattle.engine.specs.Listed.{step-high, run-high}
 use Rattle.engine.specs.Stepping as Stepping
 use Rattle.engine.specs.Running as Running
 
 -- an entry that is lent so much room refuses with a code and a place
-pub data RefusalSays (book query : List ℕ) (room : ℕ) : ℕ → ℕ → Type 0 where
+pub data RefusalSays (book query : List ℕ) (lent : ℕ) : ℕ → ℕ → Type 0 where
   -- "Goal area: at least 16,387 bytes."
-  short : room < 16387 → RefusalSays book query room 1 0
-  bad-book : {code place : ℕ} → 16387 ≤ room → Faulty Book book code place → RefusalSays book query room code place
-  bad-query : {code place : ℕ} → 16387 ≤ room → Good Book book → Faulty Query query code place → RefusalSays book query room code place
+  short : lent < 16387 → RefusalSays book query lent 1 0
+  bad-book : {code place : ℕ} → 16387 ≤ lent → Faulty Book book code place → RefusalSays book query lent code place
+  bad-query : {code place : ℕ} → 16387 ≤ lent → Good Book book → Faulty Query query code place → RefusalSays book query lent code place
 
 module _ (book query : List ℕ) (book-bytes : Bytes book) (query-bytes : Bytes query) where
   -- what refuses is said
-  said : (room : ℕ) → (refusal book query room .code ≡ 0 → ⊥) → RefusalSays book query room (refusal book query room .code) (refusal book query room .place)
-  said room n = elim (decLt room 16387) [
-    | yes s ↦ rw (area-short book query room s) (short s)
+  said : (lent : ℕ) → (refusal book query lent .code ≡ 0 → ⊥) → RefusalSays book query lent (refusal book query lent .code) (refusal book query lent .place)
+  said lent n = elim (decLt lent 16387) [
+    | yes s ↦ rw (area-short book query lent s) (short s)
     | no s ↦
-        let long : 16387 ≤ room = omega arith in
+        let long : 16387 ≤ lent = omega arith in
         elim (ℕ-discrete (bookVerdict book .code) 0) [
           | yes z ↦
-              let e = query-decides book query room long z in
-              subst (λ (r : Admitted). RefusalSays book query room (r .code) (r .place)) (inv e)
+              let e = query-decides book query lent long z in
+              subst (λ (r : Admitted). RefusalSays book query lent (r .code) (r .place)) (inv e)
               (bad-query long (book-good book book-bytes .0 z) (refused-iff Query query query-bytes (queryVerdict query .code) (queryVerdict query .place) .0 (λ w. n (ap (λ (r : Admitted). r .code) e ∙ w), refl, refl)))
-          | no m ↦ rw (book-decides book query room long m) (bad-book long (refused-iff Book book book-bytes (bookVerdict book .code) (bookVerdict book .place) .0 (m, refl, refl)))
+          | no m ↦ rw (book-decides book query lent long m) (bad-book long (refused-iff Book book book-bytes (bookVerdict book .code) (bookVerdict book .place) .0 (m, refl, refl)))
         ]
   ]
 
   -- and what is said refuses
-  refuses : (room : ℕ) {code place : ℕ} → RefusalSays book query room code place → (code ≡ 0 → ⊥) × (refusal book query room ≡ record { code = code; place = place })
-  refuses room (short s) = ((λ z. omega arith), area-short book query room s)
-  refuses room (bad-book {code} {place} long f) =
+  refuses : (lent : ℕ) {code place : ℕ} → RefusalSays book query lent code place → (code ≡ 0 → ⊥) × (refusal book query lent ≡ record { code = code; place = place })
+  refuses lent (short s) = ((λ z. omega arith), area-short book query lent s)
+  refuses lent (bad-book {code} {place} long f) =
       let a = refused-iff Book book book-bytes code place .1 f in
-      (a .0, book-decides book query room long (λ z. a .0 (inv (a .1) ∙ z)) ∙ (λ i. record { code = a .1 i; place = a .2 i }))
-  refuses room (bad-query {code} {place} long g f) =
+      (a .0, book-decides book query lent long (λ z. a .0 (inv (a .1) ∙ z)) ∙ (λ i. record { code = a .1 i; place = a .2 i }))
+  refuses lent (bad-query {code} {place} long g f) =
       let a = refused-iff Query query query-bytes code place .1 f in
-      (a .0, query-decides book query room long (book-good book book-bytes .1 g) ∙ (λ i. record { code = a .1 i; place = a .2 i }))
+      (a .0, query-decides book query lent long (book-good book book-bytes .1 g) ∙ (λ i. record { code = a .1 i; place = a .2 i }))
+
+  not-taken : {lent code place : ℕ} → RefusalSays book query lent code place → refusal book query lent .code ≡ 0 → ⊥
+  not-taken {lent} s z = let r = refuses lent s in r .0 (inv (ap (λ (r : Admitted). r .code) (r .1)) ∙ z)
+
+  -- a run is lent as much room as the shorter of its areas has
+  pub run-refused : (area space : List ℕ) {code place : ℕ} → RefusalSays book query (room area space) code place → (budget : ℕ)
+      → (runAnswer book query budget area space ≡ record { code = code; place = place; steps = 0; span = 0; bytes = 0; answer = 0; furthest = 0; argument = 0 }) × (runArea book query budget area space ≡ area) × (runAnswerArea book query budget area space ≡ space)
+  run-refused area space s budget =
+      let n = not-taken s in
+      (Running.answer-refused book query budget area space n ∙ ap refused (refuses (room area space) s .1), Running.area-refused book query budget area space n, Running.answer-area-refused book query budget area space n)
 
   module _ (area : List ℕ) {code place : ℕ} (s : RefusalSays book query (length area) code place) where
-    not-taken : refusal book query (length area) .code ≡ 0 → ⊥
-    not-taken z = let r = refuses (length area) s in r .0 (inv (ap (λ (r : Admitted). r .code) (r .1)) ∙ z)
-
-    pub run-refused : (budget : ℕ) → (runAnswer book query budget area ≡ record { code = code; place = place; steps = 0; span = 0; bytes = 0; furthest = 0; argument = 0 }) × (runArea book query budget area ≡ area)
-    run-refused budget = (Running.answer-refused book query budget area not-taken ∙ ap refused (refuses (length area) s .1), Running.area-refused book query budget area not-taken)
-
     pub step-refused : (stepAnswer book query area ≡ record { code = code; place = place; steps = 0; span = 0; bytes = 0; clause = 0; furthest = 0; argument = 0 }) × (stepArea book query area ≡ area)
-    step-refused = (Stepping.answer-refused book query area not-taken ∙ ap stepRefused (refuses (length area) s .1), Stepping.area-refused book query area not-taken)
+    step-refused = (Stepping.answer-refused book query area (not-taken s) ∙ ap stepRefused (refuses (length area) s .1), Stepping.area-refused book query area (not-taken s))
+
+  -- a code below 20 says so
+  pub run-refusal : (area space : List ℕ) (budget : ℕ) → runAnswer book query budget area space .code < 20 → RefusalSays book query (room area space) (runAnswer book query budget area space .code) (runAnswer book query budget area space .place)
+  run-refusal area space budget l =
+      let n : refusal book query (room area space) .code ≡ 0 → ⊥ = λ z. omega (arith, l, run-high book query area space budget z) in
+      subst (λ (a : Answer). RefusalSays book query (room area space) (a .code) (a .place)) (inv (Running.answer-refused book query budget area space n)) (said (room area space) n)
 
   module _ (area : List ℕ) where
-    -- a code below 20 says so
-    pub run-refusal : (budget : ℕ) → runAnswer book query budget area .code < 20 → RefusalSays book query (length area) (runAnswer book query budget area .code) (runAnswer book query budget area .place)
-    run-refusal budget l =
-        let n : refusal book query (length area) .code ≡ 0 → ⊥ = λ z. omega (arith, l, run-high book query area budget z) in
-        subst (λ (a : Answer). RefusalSays book query (length area) (a .code) (a .place)) (inv (Running.answer-refused book query budget area n)) (said (length area) n)
-
     pub step-refusal : stepAnswer book query area .code < 20 → RefusalSays book query (length area) (stepAnswer book query area .code) (stepAnswer book query area .place)
     step-refusal l =
         let n : refusal book query (length area) .code ≡ 0 → ⊥ = λ z. omega (arith, l, step-high book query area z) in

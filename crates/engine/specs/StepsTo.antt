@@ -14,13 +14,15 @@ use Rattle.search.specs.Step.{Step, solved, stuck, to, next, next-goal, goal-of
 use Rattle.search.specs.Room.{fits}
 use Rattle.search.specs.Known.{stuck-code, stuck-not-25}
 use Rattle.search.specs.Single.{if-fits, single, step}
-use Rattle.search.specs.Run.{run, goal-at, Roomy}
-use Rattle.search.specs.RunLaws.{run-runs, runs-goal}
+use Rattle.search.specs.Run.{goal-at, Roomy}
+use Rattle.search.specs.Answer.{answered}
+use Rattle.search.specs.AnswerLaws.{answered-runs}
+use Rattle.search.specs.AnswerRuns.{answers-goal}
 use Rattle.records.specs.Format.{GoodBook, GoodGoal, encodeBook, encodeGoal}
 use Rattle.areas.specs.GoodGoals.{path-good}
 use Rattle.engine.specs.declared.Answer.{Answer}
 use Rattle.engine.specs.declared.Stepped.{Stepped}
-use Rattle.engine.specs.Outcome.{over, stepSaid, bytesOf, leaves, stepAnswer, stepArea, runAnswer, runArea}
+use Rattle.engine.specs.Outcome.{over, room, stepSaid, bytesOf, leaves, stepAnswer, stepArea, runAnswer, runArea}
 use Rattle.engine.specs.Refusals.{not-refused}
 use Rattle.engine.specs.Images.{step-of-good, run-of-good}
 use Rattle.engine.specs.StepSays.{step-taken}
@@ -115,11 +117,12 @@ module _ (P : Book) (good-book : GoodBook P) (q : Goal) (good-query : GoodGoal q
         let r = reached steps in
         next-there (b .0) g (subst GoodGoal (Option·some-injective (r .goal) (b .0) (inv (r .at) ∙ b .1)) (r .good)) (b .2) (room (suc t) g (omega arith) (omega arith) e) steps
 
-    pub run-gets-there : (budget : ℕ) → let r = runAnswer (encodeBook P) (encodeGoal q) budget area in
-        StepsTo (encodeBook P) (encodeGoal q) (r .steps) (take (r .bytes) (runArea (encodeBook P) (encodeGoal q) budget area))
-    run-gets-there budget =
-        let c = run P budget q in
-        let x = run-runs P budget q in
-        let o = run-of-good P good-book q good-query area long budget in
-        subst (λ (r : Answer). StepsTo (encodeBook P) (encodeGoal q) (r .steps) (take (r .bytes) (runArea (encodeBook P) (encodeGoal q) budget area))) (inv (o .0))
-        (subst (StepsTo (encodeBook P) (encodeGoal q) (c .steps)) (inv (ap (take (length (encodeGoal (c .goal)))) (o .1) ∙ front (c .goal) area)) (gets-there (c .steps) (c .goal) (runs-goal P budget q c x) (x .roomy)))
+  -- as a run does, with whatever code it closes
+  pub run-gets-there : (area space : List ℕ) → 16387 ≤ room area space → (budget : ℕ) → let r = runAnswer (encodeBook P) (encodeGoal q) budget area space in
+      StepsTo (encodeBook P) (encodeGoal q) (r .steps) (take (r .bytes) (runArea (encodeBook P) (encodeGoal q) budget area space))
+  run-gets-there area space long budget =
+      let c = answered P budget q in
+      let x = answered-runs P budget q in
+      let o = run-of-good P good-book q good-query area space long budget in
+      subst (λ (r : Answer). StepsTo (encodeBook P) (encodeGoal q) (r .steps) (take (r .bytes) (runArea (encodeBook P) (encodeGoal q) budget area space))) (inv (o .answer))
+      (subst (StepsTo (encodeBook P) (encodeGoal q) (c .steps)) (inv (ap (take (length (encodeGoal (c .goal)))) (o .area) ∙ front (c .goal) area)) (gets-there area (omega (arith, long)) (c .steps) (c .goal) (answers-goal P budget q c x) (x .roomy)))

@@ -23,7 +23,7 @@ use Rattle.records.proofs.Premises.{book-clauses, goal-premises}
 use Rattle.engine.specs.declared.Answer.{Answer}
 use Rattle.engine.specs.declared.Picked.{Picked}
 use Rattle.engine.specs.declared.Stepped.{Stepped}
-use Rattle.engine.specs.Outcome.{refusal, closing, runAnswer, stepAnswer, pickAnswer, applyAnswer}
+use Rattle.engine.specs.Outcome.{refusal, room, closing, runAnswer, stepAnswer, pickAnswer, applyAnswer}
 use Rattle.engine.specs.Stepping.{answer-refused, answer-taken, single-refused, single-taken}
 use Rattle.engine.specs.Running as Running
 use Rattle.engine.specs.Calls.{pick-refused, pick-taken}
@@ -48,13 +48,14 @@ why-small formulas (f, rest, e, x) =
 figures-0 : (P : Book) (code : ℕ) (g : Goal) → (code ≡ 22 → ⊥) → (figures P code g .clause ≡ 0) × (figures P code g .argument ≡ 0)
 figures-0 P code g n = let e = figures-other P code g n in (ap (λ (w : Figures). w .clause) e, ap (λ (w : Figures). w .argument) e)
 
-means-stuck : {P : Book} {budget steps : ℕ} {g : Goal} {c n : ℕ} {w : Figures} → Means P budget steps g c n w → c ≡ 22 → Stuck-at P g (w .clause) (w .argument)
+means-stuck : {P : Book} {budget steps : ℕ} {g a : Goal} {c n : ℕ} {w : Figures} → Means P budget steps g a c n w → c ≡ 22 → Stuck-at P g (w .clause) (w .argument)
 means-stuck (RunSays.solved e) z = absurd (omega arith)
 means-stuck (RunSays.loop f g e y) z = absurd (omega arith)
 means-stuck (RunSays.stuck f g e n i w x) z = (f, g, e, x)
 means-stuck (RunSays.unknown f g e n i) z = absurd (omega arith)
 means-stuck (RunSays.spent j h n e) z = absurd (omega arith)
 means-stuck (RunSays.full j h n l b) z = absurd (omega arith)
+means-stuck (RunSays.long j h b n l f t) z = absurd (omega arith)
 
 says-stuck : {P : Book} {q : Goal} {area after : List ℕ} {r : Stepped} → StepSays P q area r after → r .code ≡ 22 → Stuck-at P q (r .furthest) (r .argument)
 says-stuck (solved e) z = absurd (omega arith)
@@ -64,22 +65,22 @@ says-stuck (full k h n b) z = absurd (omega arith)
 says-stuck (went k h n l m) z = absurd (omega arith)
 
 -- The run: of the goal that it closes with.
-module _ (book query : List ℕ) (budget : ℕ) (area : List ℕ) where
+module _ (book query : List ℕ) (budget : ℕ) (area space : List ℕ) where
   abbrev answer : Answer
-  answer = runAnswer book query budget area
+  answer = runAnswer book query budget area space
 
   pub run-why : Bytes book → Bytes query → answer .code ≡ 22
       → (g : Goal) × (goal-at (bookOf book) (goalOf query) (answer .steps) ≡ some g) × Stuck-at (bookOf book) g (answer .furthest) (answer .argument)
-  run-why book-bytes query-bytes c = let m = run-means book query budget area book-bytes query-bytes (omega (arith, c)) in (m .goal, m .reached, means-stuck (m .means) c)
+  run-why book-bytes query-bytes c = let m = run-means book query budget area space book-bytes query-bytes (omega (arith, c)) in (m .goal, m .reached, means-stuck (m .means) c)
 
   pub run-no-why : (answer .code ≡ 22 → ⊥) → (answer .furthest ≡ 0) × (answer .argument ≡ 0)
-  run-no-why n = elim (ℕ-discrete (refusal book query (length area) .code) 0) [
+  run-no-why n = elim (ℕ-discrete (refusal book query (room area space) .code) 0) [
     | yes z ↦
-        let e = Running.answer-taken book query budget area z in
+        let e = Running.answer-taken book query budget area space z in
         let c = closing book query budget in
         let w = figures-0 (bookOf book) (c .code) (c .goal) (λ d. n (ap (λ (a : Answer). a .code) e ∙ d)) in
         (ap (λ (a : Answer). a .furthest) e ∙ w .0, ap (λ (a : Answer). a .argument) e ∙ w .1)
-    | no x ↦ let e = Running.answer-refused book query budget area x in (ap (λ (a : Answer). a .furthest) e, ap (λ (a : Answer). a .argument) e)
+    | no x ↦ let e = Running.answer-refused book query budget area space x in (ap (λ (a : Answer). a .furthest) e, ap (λ (a : Answer). a .argument) e)
   ]
 
 -- The single step: of the query's goal.

@@ -7,12 +7,13 @@ use native.Mathlib.Decide.{ℕ-discrete}
 use mathlib.Core.Path.{_≡_, sym as inv, ap, _∙_}
 use mathlib.Core.List.{List}
 use lib.ListN.{length}
-use Rattle.search.specs.RunLaws.{run-runs, runs-span}
+use Rattle.search.specs.AnswerLaws.{answered-runs}
+use Rattle.search.specs.AnswerRuns.{answers-span}
 use Rattle.records.specs.Decode.{bookOf, goalOf}
 use Rattle.engine.specs.declared.Answer.{Answer}
 use Rattle.engine.specs.declared.Stepped.{Stepped}
 use Rattle.engine.specs.declared.admit.Admitted.{Admitted}
-use Rattle.engine.specs.Outcome.{refusal, closing, runAnswer, runArea, stepAnswer, stepArea}
+use Rattle.engine.specs.Outcome.{refusal, room, closing, runAnswer, runArea, runAnswerArea, stepAnswer, stepArea}
 use Rattle.engine.specs.Refusals.{area-short}
 use Rattle.engine.specs.Listed.{short-only, run-high, step-high}
 use Rattle.engine.specs.Stepping as Stepping
@@ -24,36 +25,36 @@ short-place : (book query : List ℕ) (room : ℕ) → refusal book query room .
 short-place book query room e = ap (λ (r : Admitted). r .place) (area-short book query room (short-only book query room e))
 
 -- The run.
-module _ (book query : List ℕ) (budget : ℕ) (area : List ℕ) where
+module _ (book query : List ℕ) (budget : ℕ) (area space : List ℕ) where
   abbrev answer : Answer
-  answer = runAnswer book query budget area
+  answer = runAnswer book query budget area space
 
   abbrev code : ℕ
-  code = refusal book query (length area) .code
+  code = refusal book query (room area space) .code
 
-  pub run-refuses : answer .code < 20 → (answer .steps ≡ 0) × (answer .span ≡ 0) × (answer .bytes ≡ 0) × (runArea book query budget area ≡ area)
+  pub run-refuses : answer .code < 20 → (answer .steps ≡ 0) × (answer .span ≡ 0) × (answer .bytes ≡ 0) × (answer .answer ≡ 0) × (runArea book query budget area space ≡ area) × (runAnswerArea book query budget area space ≡ space)
   run-refuses l = elim (ℕ-discrete code 0) [
-    | yes z ↦ absurd (omega (arith, run-high book query area budget z))
+    | yes z ↦ absurd (omega (arith, run-high book query area space budget z))
     | no n ↦
-        let e = Running.answer-refused book query budget area n in
-        (ap (λ (a : Answer). a .steps) e, ap (λ (a : Answer). a .span) e, ap (λ (a : Answer). a .bytes) e, Running.area-refused book query budget area n)
+        let e = Running.answer-refused book query budget area space n in
+        (ap (λ (a : Answer). a .steps) e, ap (λ (a : Answer). a .span) e, ap (λ (a : Answer). a .bytes) e, ap (λ (a : Answer). a .answer) e, Running.area-refused book query budget area space n, Running.answer-area-refused book query budget area space n)
   ]
 
   pub run-place : 20 ≤ answer .code → answer .place ≡ 0
-  run-place h = ap (λ (a : Answer). a .place) (Running.answer-taken book query budget area (taken-by-code book query budget area h))
+  run-place h = ap (λ (a : Answer). a .place) (Running.answer-taken book query budget area space (taken-by-code book query budget area space h))
 
   pub run-short : answer .code ≡ 1 → answer .place ≡ 0
   run-short e = elim (ℕ-discrete code 0) [
-    | yes z ↦ absurd (omega (arith, e, run-high book query area budget z))
-    | no n ↦ let r = Running.answer-refused book query budget area n in ap (λ (a : Answer). a .place) r ∙ short-place book query (length area) (inv (ap (λ (a : Answer). a .code) r) ∙ e)
+    | yes z ↦ absurd (omega (arith, e, run-high book query area space budget z))
+    | no n ↦ let r = Running.answer-refused book query budget area space n in ap (λ (a : Answer). a .place) r ∙ short-place book query (room area space) (inv (ap (λ (a : Answer). a .code) r) ∙ e)
   ]
 
   pub run-span : (answer .code ≡ 21 → ⊥) → answer .span ≡ 0
   run-span other = elim (ℕ-discrete code 0) [
     | yes z ↦
-        let e = Running.answer-taken book query budget area z in
-        ap (λ (a : Answer). a .span) e ∙ runs-span (bookOf book) budget (goalOf query) (closing book query budget) (run-runs (bookOf book) budget (goalOf query)) (λ c. other (ap (λ (a : Answer). a .code) e ∙ c))
-    | no n ↦ ap (λ (a : Answer). a .span) (Running.answer-refused book query budget area n)
+        let e = Running.answer-taken book query budget area space z in
+        ap (λ (a : Answer). a .span) e ∙ answers-span (bookOf book) budget (goalOf query) (closing book query budget) (answered-runs (bookOf book) budget (goalOf query)) (λ c. other (ap (λ (a : Answer). a .code) e ∙ c))
+    | no n ↦ ap (λ (a : Answer). a .span) (Running.answer-refused book query budget area space n)
   ]
 
 -- The single step.

@@ -105,7 +105,8 @@ fn from_formula(
         Move::Stuck(_, _) => no_step(33),
         Move::Unknown => no_step(33),
         Move::Full => no_step(24),
-        Move::To(_, n, count) => {
+        Move::Over => no_step(24), // cannot be: there is no answer
+        Move::To(_, n, _, count) => {
             let bytes = put_goal(&out[..n], count, area);
             one_step(call.clause, bytes)
         }
@@ -123,9 +124,9 @@ fn from_goal(book: &[u32], shelf: &[u16], goal: &[u32], call: Call, area: &mut [
     if clauses(shelf) <= call.clause {
         return no_step(32);
     }
-    let mut words = [0u32; 4352];
+    let mut words = [0u32; 8448];
     let mut rows = [0u16; 30464];
-    let mut out = [0u32; 4096];
+    let mut out = [0u32; 8192];
     from_formula(
         book,
         shelf,

@@ -90,7 +90,7 @@ fn from_goal(book: &[u32], shelf: &[u16], goal: &[u32], formulas: usize) -> Pick
     if formulas == 0 {
         return picked(20, 0);
     }
-    let mut words = [0u32; 4352];
+    let mut words = [0u32; 8448];
     let mut rows = [0u16; 30464];
     from_formula(book, shelf, goal, &mut words, &mut rows)
 }

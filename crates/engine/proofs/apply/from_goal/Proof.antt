@@ -18,6 +18,6 @@ from-goal-spec =
     (λ c. search needs)
     (λ c. search needs)
     (λ c. search needs)
-    (λ c κs. let p = c .before .before .before .before .before .before .before .before .before .before .before .before .before .pre in (record { wordsLength = length-replicate {A = ℕ} 4352 0; rowsLength = length-replicate {A = ℕ} 30464 0; outLength = length-replicate {A = ℕ} 4096 0 }, (p .0, (p .1 .0, p .1 .1, omega (arith, c .before .before .before .before .if2 .left, c .before .before .before .before .before .before .clauses .ensures _ (p .1 .1 .long))), some-formula (c .before .before .before .before .before .before .before .if1 .left) (p .2))))
+    (λ c κs. let p = c .before .before .before .before .before .before .before .before .before .before .before .before .before .pre in (record { wordsLength = length-replicate {A = ℕ} 8448 0; rowsLength = length-replicate {A = ℕ} 30464 0; outLength = length-replicate {A = ℕ} 8192 0 }, (p .0, (p .1 .0, p .1 .1, omega (arith, c .before .before .before .before .if2 .left, c .before .before .before .before .before .before .clauses .ensures _ (p .1 .1 .long))), some-formula (c .before .before .before .before .before .before .before .if1 .left) (p .2))))
     (λ c. search needs)
     (λ c. gives-formula (c .before .before .before .before .before .before .before .before .before .before .before .before .before .before .before .before .before .before .before .args .call .clause) (c .before .before .before .before .before .before .before .before .before .before .before .before .before .if1 .left) _ (c .before .before .before .before .before .from-formula .ensures)))

@@ -14,5 +14,5 @@ from-goal-spec =
     (λ c. pick-empty (c .before .if1 .taken) (c .picked .ensures))
     (λ c. search needs)
     (λ c. search needs)
-    (λ c κs. let s = some-formula (c .before .before .if1 .left) (c .before .before .before .before .before .before .pre .1) in (record { wordsLength = length-replicate {A = ℕ} 4352 0; rowsLength = length-replicate {A = ℕ} 30464 0 }, c .before .before .before .before .before .before .pre .0, (s .0, s .1, _, s .2)))
+    (λ c κs. let s = some-formula (c .before .before .if1 .left) (c .before .before .before .before .before .before .pre .1) in (record { wordsLength = length-replicate {A = ℕ} 8448 0; rowsLength = length-replicate {A = ℕ} 30464 0 }, c .before .before .before .before .before .before .pre .0, (s .0, s .1, _, s .2)))
     (λ c. pick-formula (c .before .before .before .before .before .if1 .left) (c .before .before .from-formula .ensures)))
