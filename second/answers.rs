@@ -32,34 +32,32 @@ fn all(a: &Answer) -> String {
     format!("{} {} {} {} {} {} {} {}", a.code, a.place, a.steps, a.span, a.bytes, a.clause, a.furthest, a.argument)
 }
 
-fn of_run(case: &Case, area: &mut [u8]) -> Result<Answer, String> {
-    let a = run(&case.book, &case.query, case.number, area);
+/// The numbers of a run, and what its two areas hold then.
+fn of_run(entry: Entry, case: &Case) -> Result<String, String> {
+    let (mut area, mut answer) = (case.area.bytes(), case.answer.bytes());
+    let a = run(&case.book, &case.query, case.number, &mut area, &mut answer);
     if a.code == 21 {
         period::shortest(case, &a)?;
     }
-    Ok(a)
+    let numbers = match entry {
+        Entry::RunForC => number(&a, a.steps).to_string(),
+        _ => format!("{} {} {} {} {} {} {} {}", a.code, a.place, a.steps, a.span, a.bytes, a.answer, a.furthest, a.argument),
+    };
+    Ok(format!("{numbers} {} {}", sum(&area), sum(&answer)))
 }
 
 /// The numbers of an entry that is lent an area, and what the area holds then.
-fn lent(entry: Entry, case: &Case) -> Result<String, String> {
+fn lent(entry: Entry, case: &Case) -> String {
     let mut area = case.area.bytes();
     let numbers = match entry {
         Entry::Step => all(&step(&case.book, &case.query, &mut area)),
         Entry::Apply => all(&apply(&case.book, &case.query, case.number, &mut area)),
-        Entry::ApplyForC => {
+        _ => {
             let a = apply(&case.book, &case.query, case.number, &mut area);
             number(&a, clause_and_argument(&a)).to_string()
         }
-        Entry::RunForC => {
-            let a = of_run(case, &mut area)?;
-            number(&a, a.steps).to_string()
-        }
-        _ => {
-            let a = of_run(case, &mut area)?;
-            format!("{} {} {} {} {} {} {}", a.code, a.place, a.steps, a.span, a.bytes, a.furthest, a.argument)
-        }
     };
-    Ok(format!("{numbers} {}", sum(&area)))
+    format!("{numbers} {}", sum(&area))
 }
 
 fn picked(entry: Entry, a: Answer) -> String {
@@ -74,6 +72,7 @@ pub fn line(item: &Item) -> Result<String, String> {
         Entry::CheckBook => Ok(check(read::book(&item.case.book).map(|clauses| clauses.len()))),
         Entry::CheckQuery => Ok(check(read::query(&item.case.query).map(|goal| crate::tree::nodes(&goal)))),
         entry @ (Entry::Pick | Entry::PickForC) => Ok(picked(entry, pick(&item.case.book, &item.case.query))),
-        entry => lent(entry, &item.case),
+        entry @ (Entry::Run | Entry::RunForC) => of_run(entry, &item.case),
+        entry => Ok(lent(entry, &item.case)),
     }
 }

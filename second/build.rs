@@ -64,5 +64,6 @@ pub fn goal(formulas: &[Formula]) -> Goal {
 }
 
 pub fn case(clauses: &[Clause], formulas: &[Formula], budget: u32, dice: &mut Dice) -> Case {
-    Case { book: image::of_book(clauses), query: image::of(&goal(formulas)), number: budget, area: Area::usual(dice) }
+    let (book, query) = (image::of_book(clauses), image::of(&goal(formulas)));
+    Case { book, query, number: budget, area: Area::usual(dice), answer: Area::usual(dice) }
 }

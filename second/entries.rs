@@ -12,6 +12,8 @@ pub struct Answer {
     pub steps: u32,
     pub span: u32,
     pub bytes: u32,
+    /// The bytes of a run's answer.
+    pub answer: u32,
     pub clause: u32,
     /// The clause that got furthest, and the argument at which its head fails: other than 0 with code 22 alone.
     pub furthest: u32,
@@ -31,8 +33,8 @@ fn inputs(book: &[u8], query: &[u8]) -> Result<(Vec<Clause>, Goal), Answer> {
     Ok((clauses, read::query(query).map_err(refused)?))
 }
 
-fn with_area(book: &[u8], query: &[u8], area: &[u8]) -> Result<(Vec<Clause>, Goal), Answer> {
-    if area.len() < 16387 { Err(only(1)) } else { inputs(book, query) }
+fn with_areas(book: &[u8], query: &[u8], areas: &[&[u8]]) -> Result<(Vec<Clause>, Goal), Answer> {
+    if areas.iter().any(|area| area.len() < 16387) { Err(only(1)) } else { inputs(book, query) }
 }
 
 fn write(goal: &Goal, area: &mut [u8]) -> u32 {
@@ -55,17 +57,19 @@ fn at(code: u8, clauses: &[Clause], goal: &Goal) -> Answer {
     Answer { furthest: clause as u32, argument: argument as u32, ..only(22) }
 }
 
-pub fn run(book: &[u8], query: &[u8], budget: u32, area: &mut [u8]) -> Answer {
-    let (clauses, goal) = match with_area(book, query, area) {
+/// "The goal area and the answer area hold the goal and the instance at the closing state" (document 02, C-11).
+pub fn run(book: &[u8], query: &[u8], budget: u32, area: &mut [u8], space: &mut [u8]) -> Answer {
+    let (clauses, goal) = match with_areas(book, query, &[area, space]) {
         Ok(good) => good,
         Err(answer) => return answer,
     };
     let (code, span, state) = follow(&clauses, goal, budget);
-    Answer { steps: state.t, span, bytes: write(&state.goal, area), ..at(code, &clauses, &state.goal) }
+    let (bytes, answer) = (write(&state.goal, area), write(&state.answer, space));
+    Answer { steps: state.t, span, bytes, answer, ..at(code, &clauses, &state.goal) }
 }
 
 pub fn step(book: &[u8], query: &[u8], area: &mut [u8]) -> Answer {
-    let (clauses, goal) = match with_area(book, query, area) {
+    let (clauses, goal) = match with_areas(book, query, &[area]) {
         Ok(good) => good,
         Err(answer) => return answer,
     };
@@ -96,7 +100,7 @@ pub fn pick(book: &[u8], query: &[u8]) -> Answer {
 
 /// "Refusals of the apply call, after the input codes: 20 empty goal, 32 no such clause, 33 head doesn't unify, 24; in this order."
 pub fn apply(book: &[u8], query: &[u8], clause: u32, area: &mut [u8]) -> Answer {
-    let (clauses, goal) = match with_area(book, query, area) {
+    let (clauses, goal) = match with_areas(book, query, &[area]) {
         Ok(good) => good,
         Err(answer) => return answer,
     };

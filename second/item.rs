@@ -1,7 +1,7 @@
 // The items of a stream, as the program `try_entries` reads them.
 use crate::dice::Dice;
 
-/// What an entry with a goal area is called with.
+/// What an entry with areas is called with.
 #[derive(Clone)]
 pub struct Case {
     pub book: Vec<u8>,
@@ -9,6 +9,8 @@ pub struct Case {
     /// A run's budget, or the clause number of an apply.
     pub number: u32,
     pub area: Area,
+    /// A run's answer area.
+    pub answer: Area,
 }
 
 /// An area's length and what it holds before the call: its first byte, and what each byte has more than the one before it.
@@ -23,6 +25,15 @@ impl Area {
     /// The shortest that is long enough, with any bytes.
     pub fn usual(dice: &mut Dice) -> Area {
         Area { length: 16387, first: dice.below(256) as u8, more: dice.below(256) as u8 }
+    }
+
+    fn read(bytes: &[u8]) -> Area {
+        Area { length: number(&bytes[..4]), first: bytes[4], more: bytes[5] }
+    }
+
+    fn written(&self) -> [u8; 6] {
+        let [a, b, c, d] = four(self.length);
+        [a, b, c, d, self.first, self.more]
     }
 
     pub fn bytes(&self) -> Vec<u8> {
@@ -47,13 +58,17 @@ use Entry::*;
 pub const ENTRIES: [Entry; 9] = [CheckBook, CheckQuery, Step, Run, RunForC, Pick, Apply, PickForC, ApplyForC];
 
 impl Entry {
-    /// Whether it is lent a goal area.
-    pub fn has_area(self) -> bool {
-        matches!(self, Step | Run | RunForC | Apply | ApplyForC)
+    /// How many areas it is lent: a run has an answer area behind its goal area.
+    pub fn areas(self) -> usize {
+        match self {
+            Run | RunForC => 2,
+            Step | Apply | ApplyForC => 1,
+            _ => 0,
+        }
     }
 }
 
-/// A check of a book has no use for the query, nor for number and area; a pick has none for number and area; the others likewise.
+/// A check of a book has no use for the query, nor for number and areas; a pick has none for number and areas; the others likewise.
 pub struct Item {
     pub entry: Entry,
     pub case: Case,
@@ -76,13 +91,11 @@ impl Item {
     }
 
     pub fn bytes(&self) -> Vec<u8> {
-        let Case { book, query, number, area } = &self.case;
+        let Case { book, query, number, area, answer } = &self.case;
         let rest = match self.entry {
             Entry::CheckBook => book.clone(),
             Entry::CheckQuery => query.clone(),
-            _ => {
-                [&number.to_be_bytes()[..], &four(area.length), &[area.first, area.more], &four(book.len()), book, query].concat()
-            }
+            _ => [&number.to_be_bytes()[..], &area.written(), &answer.written(), &four(book.len()), book, query].concat(),
         };
         [&[self.entry as u8][..], &four(rest.len()), &rest].concat()
     }
@@ -92,16 +105,17 @@ impl Item {
         let entry = *ENTRIES.iter().find(|e| **e as u8 == stream[0])?;
         let length = number(stream.get(1..5)?);
         let (rest, after) = (stream.get(5..5 + length)?, &stream[5 + length..]);
-        let mut case = Case { book: Vec::new(), query: Vec::new(), number: 0, area: Area { length: 0, first: 0, more: 0 } };
+        let none = Area { length: 0, first: 0, more: 0 };
+        let mut case = Case { book: Vec::new(), query: Vec::new(), number: 0, area: none, answer: none };
         match entry {
             Entry::CheckBook => case.book = rest.to_vec(),
             Entry::CheckQuery => case.query = rest.to_vec(),
             _ => {
-                let book = number(rest.get(10..14)?);
+                let book = number(rest.get(16..20)?);
                 case.number = number(&rest[..4]) as u32;
-                case.area = Area { length: number(&rest[4..8]), first: rest[8], more: rest[9] };
-                case.book = rest.get(14..14 + book)?.to_vec();
-                case.query = rest[14 + book..].to_vec();
+                (case.area, case.answer) = (Area::read(&rest[4..10]), Area::read(&rest[10..16]));
+                case.book = rest.get(20..20 + book)?.to_vec();
+                case.query = rest[20 + book..].to_vec();
             }
         }
         Some((Item { entry, case }, after))

@@ -6,6 +6,7 @@ use crate::random::Shape;
 
 pub const SMALL: &str = include_str!("lists/small");
 pub const SIZES: &str = include_str!("lists/sizes");
+pub const ANSWERS: &str = include_str!("lists/answers");
 pub const RANDOM: &str = include_str!("lists/random");
 
 #[derive(Clone)]
@@ -48,13 +49,17 @@ impl Line {
         self.options.iter().filter_map(|(_, text)| text.split_once(':')).map(|(_, w)| value(w)).max().unwrap_or(1)
     }
 
+    fn area(&self, name: &str, turn: u32, dice: &mut Dice) -> Area {
+        Area { length: self.number(name, 16387, turn, dice) as usize, ..Area::usual(dice) }
+    }
+
     pub fn case(&self, turn: u32, dice: &mut Dice) -> Case {
         let named = ["a", "b", "c", "d"].map(|name| self.number(name, 0, turn, dice));
         let numbers = Numbers { named, shapes: [0, 1, 2].map(|sort| Shape::new(dice, sort)) };
         let book = play(self.book, &numbers, dice);
         let query = play(self.query, &numbers, dice);
-        let area = Area { length: self.number("area", 16387, turn, dice) as usize, ..Area::usual(dice) };
-        Case { book, query, number: self.number("budget", 1000, turn, dice), area }
+        let [area, answer] = ["area", "answer"].map(|name| self.area(name, turn, dice));
+        Case { book, query, number: self.number("budget", 1000, turn, dice), area, answer }
     }
 }
 

@@ -15,6 +15,7 @@ mod circles;
 mod deep;
 mod dice;
 mod entries;
+mod growing;
 mod image;
 mod item;
 mod list;
@@ -69,7 +70,8 @@ fn show(stream: &[u8], n: &str) -> Done {
     let n: usize = n.parse().map_err(|_| "an item's number is from 1 on")?;
     let items = items(stream)?;
     let Item { entry, case } = items.get(n.wrapping_sub(1)).ok_or("there is no such item")?;
-    println!("{entry:?}, number {}, area {} from {} by {}", case.number, case.area.length, case.area.first, case.area.more);
+    let [area, answer] = [case.area, case.answer].map(|a| format!("{} from {} by {}", a.length, a.first, a.more));
+    println!("{entry:?}, number {}, area {area}, answer area {answer}", case.number);
     println!("book {:02x?}\nquery {:02x?}", case.book, case.query);
     Ok(())
 }
@@ -91,7 +93,7 @@ fn trace(input: &[u8]) -> String {
         return "short".to_string();
     }
     let (book, query) = input[8..].split_at(number(&input[4..8]) as usize);
-    let a = entries::run(book, query, number(&input[..4]), &mut [0; 16387]);
+    let a = entries::run(book, query, number(&input[..4]), &mut [0; 16387], &mut [0; 16387]);
     format!("{} {} {} {} {}", a.code, a.place, a.steps, a.span, a.bytes)
 }
 
@@ -105,7 +107,9 @@ fn pack(text: &str, budget: u32) -> Result<Vec<u8>, String> {
 
 fn text(bytes: &[u8]) -> String {
     match text::read(bytes) {
-        Ok(read) => format!("0 0 {} {} {} {}", read.book.len(), read.names.len(), answers::sum(&read.book), answers::sum(&read.names)),
+        Ok(read) => {
+            format!("0 0 {} {} {} {}", read.book.len(), read.names.len(), answers::sum(&read.book), answers::sum(&read.names))
+        }
         Err(text::Refusal(code, place)) => format!("{code} {place} 0 0 {} {}", answers::sum(&[]), answers::sum(&[])),
     }
 }

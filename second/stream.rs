@@ -4,6 +4,7 @@ use crate::circles;
 use crate::deep;
 use crate::dice::Dice;
 use crate::entries::run;
+use crate::growing;
 use crate::item::{Area, Case, ENTRIES, Entry, Item};
 use crate::list::{self, Line};
 use crate::read;
@@ -31,6 +32,12 @@ fn at_all_entries(cases: Vec<Case>) -> impl Iterator<Item = Item> {
         _ => vec![Item { entry, case: case.clone() }],
     };
     cases.into_iter().flat_map(move |case| ENTRIES.map(|entry| at(&case, entry))).flatten()
+}
+
+/// The runs alone: the other entries carry no answer.
+fn runs(cases: Vec<Case>) -> impl Iterator<Item = Item> {
+    let both = |case: Case| [Entry::Run, Entry::RunForC].map(|entry| Item { entry, case: case.clone() });
+    cases.into_iter().flat_map(both)
 }
 
 /// Cut at every byte, with a byte more, and with each byte changed to the kinds and the limits.
@@ -70,6 +77,10 @@ fn weighted<'a>(lines: &'a [Line], dice: &mut Dice) -> &'a Line {
     unreachable!("the weights are summed up")
 }
 
+fn other_length(area: Area, dice: &mut Dice) -> Area {
+    Area { length: [0, 16386, 16388, 20000, 40960][dice.below(5) as usize], ..area }
+}
+
 fn random_case(lines: &[Line], dice: &mut Dice) -> Case {
     let mut case = match dice.below(64) {
         0..16 => deep::random(dice),
@@ -77,20 +88,24 @@ fn random_case(lines: &[Line], dice: &mut Dice) -> Case {
         26..36 => circles::random(dice),
         36 => rooms::random(dice),
         37..43 => stuck::random(dice),
+        43..49 => growing::random(dice),
         _ => weighted(lines, dice).case(0, dice),
     };
     if dice.once_in(12) {
         case = unknown::made(case, dice);
     }
     if dice.once_in(20) {
-        case.area = Area { length: [0, 16386, 16388, 20000, 40960][dice.below(5) as usize], ..case.area };
+        case.area = other_length(case.area, dice);
+    }
+    if dice.once_in(20) {
+        case.answer = other_length(case.answer, dice);
     }
     case
 }
 
 /// Runs with budgets around the closing step.
 fn around_the_end(case: &Case) -> Vec<Item> {
-    let t = run(&case.book, &case.query, case.number.min(300), &mut [0; 16387]).steps;
+    let t = run(&case.book, &case.query, case.number.min(300), &mut [0; 16387], &mut [0; 16387]).steps;
     let budgets = [t.saturating_sub(1), t, t + 1];
     budgets.map(|number| Item { entry: Entry::Run, case: Case { number, ..case.clone() } }).into()
 }
@@ -135,6 +150,7 @@ pub fn long(seed: u64, count: usize) -> Vec<Item> {
     items.extend(at_all_entries(worked::cases(&mut dice)));
     items.extend(at_all_entries(list::cases(list::SMALL, &mut dice)));
     items.extend(at_all_entries(list::cases(list::SIZES, &mut dice)));
+    items.extend(runs(list::cases(list::ANSWERS, &mut dice)));
     let lines = list::lines(list::RANDOM);
     while items.len() < count {
         items.extend(random_items(&lines, &mut dice).into_iter().filter(Item::has_room));
@@ -143,18 +159,18 @@ pub fn long(seed: u64, count: usize) -> Vec<Item> {
     items
 }
 
-/// The documents' cases, the short list, and short items at random.
+/// The documents' cases, the short list, short ones of the answers, and short items at random.
 pub fn short() -> Vec<Item> {
     let mut dice = Dice::new(1);
     let mut items: Vec<Item> = at_all_entries(table::cases(&mut dice)).collect();
     items.extend(at_all_entries(worked::cases(&mut dice)));
     items.extend(at_all_entries(list::cases(list::SMALL, &mut dice)));
+    let is_short = |item: &Item| item.case.book.len() + item.case.query.len() < 400;
+    items.extend(runs(list::cases(list::ANSWERS, &mut dice)).filter(is_short));
     let lines = list::lines(list::RANDOM);
     let count = items.len() + 300;
     while items.len() < count {
-        items.extend(
-            random_items(&lines, &mut dice).into_iter().filter(|item| item.case.book.len() + item.case.query.len() < 400),
-        );
+        items.extend(random_items(&lines, &mut dice).into_iter().filter(is_short));
     }
     items
 }

@@ -1,4 +1,4 @@
--- An item of the stream, for an entry that is lent an area.
+-- An item of the stream, for an entry that is lent areas.
 use Prim.Native.Nat.{ℕ, _+_, _-_, _*_}
 use mathlib.Core.Bool.{Bool, false}
 use mathlib.Core.List.{List}
@@ -10,9 +10,10 @@ use Rattle.terms.specs.When.{_⇒_∣_}
 abbrev pub wordAt : List ℕ → ℕ → ℕ
 wordAt s at = getD s at 0 * 16777216 + getD s (at + 1) 0 * 65536 + getD s (at + 2) 0 * 256 + getD s (at + 3) 0
 
--- the item has its 14 bytes, the area's length is at most `room`, and the book does not go past the item's end
-unfoldable pub complete : List ℕ → ℕ → Bool
-complete item room =
-    ltb (length item) 14 ⇒ false
+-- the item has its 20 bytes, the goal area's length is at most `room` and the answer area's at most `space`, and the book does not go past the item's end
+unfoldable pub complete : List ℕ → ℕ → ℕ → Bool
+complete item room space =
+    ltb (length item) 20 ⇒ false
     ∣ ltb room (wordAt item 4) ⇒ false
-    ∣ leb (wordAt item 10) (length item - 14)
+    ∣ ltb space (wordAt item 10) ⇒ false
+    ∣ leb (wordAt item 16) (length item - 20)

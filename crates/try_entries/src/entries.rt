@@ -6,7 +6,7 @@ use records::Check;
 ghost use mathlib.Core.Path.{_≡_};
 ghost use mathlib.Core.Bool.{true};
 ghost use Prim.Native.Nat.{_<_};
-ghost use Rattle.engine.specs.Outcome.{stepArea, applyArea, runArea};
+ghost use Rattle.engine.specs.Outcome.{stepArea, applyArea, runArea, runAnswerArea};
 
 fn number(n: u64) {
     io::print_decimal(STDOUT_FILENO, n);
@@ -102,7 +102,7 @@ pub fn pick(book: &[u8], query: &[u8]) -> bool
     true
 }
 
-fn answered(a: Answer, area: &[u8]) -> bool
+fn answered(a: Answer, area: &[u8], answer: &[u8]) -> bool
     ensures { λ r. ⌜ r ≡ true ⌝ }
 {
     number(a.code as u64);
@@ -110,26 +110,31 @@ fn answered(a: Answer, area: &[u8]) -> bool
     number(a.steps as u64);
     number(a.span as u64);
     number(a.bytes as u64);
+    number(a.answer as u64);
     number(a.furthest as u64);
     number(a.argument as u64);
-    last(sum(area));
+    number(sum(area));
+    last(sum(answer));
     true
 }
 
-pub fn run(book: &[u8], query: &[u8], budget: u32, area: &mut [u8]) -> bool
+pub fn run(book: &[u8], query: &[u8], budget: u32, area: &mut [u8], answer: &mut [u8]) -> bool
     ensures { λ r. ⌜ r ≡ true ⌝ }
-    ensures area { λ _. ⌜ now (area .exit) ≡ runArea (now (book .entry)) (now (query .entry)) budget (now (area .entry)) ⌝ }
+    ensures area { λ _. ⌜ now (area .exit) ≡ runArea (now (book .entry)) (now (query .entry)) budget (now (area .entry)) (now (answer .entry)) ⌝ }
+    ensures answer { λ _. ⌜ now (answer .exit) ≡ runAnswerArea (now (book .entry)) (now (query .entry)) budget (now (area .entry)) (now (answer .entry)) ⌝ }
 {
-    let a = engine::run::run(book, query, budget, area);
-    answered(a, area)
+    let a = engine::run::run(book, query, budget, area, answer);
+    answered(a, area, answer)
 }
 
-pub fn run_for_c(book: &[u8], query: &[u8], budget: u32, area: &mut [u8]) -> bool
+pub fn run_for_c(book: &[u8], query: &[u8], budget: u32, area: &mut [u8], answer: &mut [u8]) -> bool
     ensures { λ r. ⌜ r ≡ true ⌝ }
-    ensures area { λ _. ⌜ now (area .exit) ≡ runArea (now (book .entry)) (now (query .entry)) budget (now (area .entry)) ⌝ }
+    ensures area { λ _. ⌜ now (area .exit) ≡ runArea (now (book .entry)) (now (query .entry)) budget (now (area .entry)) (now (answer .entry)) ⌝ }
+    ensures answer { λ _. ⌜ now (answer .exit) ≡ runAnswerArea (now (book .entry)) (now (query .entry)) budget (now (area .entry)) (now (answer .entry)) ⌝ }
 {
-    number(engine::firmware::pitxargole_run(budget, book, query, area));
-    last(sum(area));
+    number(engine::firmware::pitxargole_run(budget, book, query, area, answer));
+    number(sum(area));
+    last(sum(answer));
     true
 }
 

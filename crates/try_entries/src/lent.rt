@@ -1,13 +1,14 @@
-// The entries that are lent an area, and the picks, which have no use for it. Their items have: a run's budget or an apply's clause number (4 bytes), of
-// which a single step and a pick have no use; the area's length (4 bytes), its first byte and what each byte has more than the one before it, modulo 256
-// (1 byte each); the book's length (4 bytes), the book, and the query.
+// The entries that are lent areas, and the picks, which have no use for them. Their items have: a run's budget or an apply's clause number (4 bytes), of
+// which a single step and a pick have no use; the goal area's length (4 bytes), its first byte and what each byte has more than the one before it, modulo
+// 256 (1 byte each); the same of the answer area, of which only a run has use; the book's length (4 bytes), the book, and the query.
 use crate::entries;
 use crate::number;
 ghost use mathlib.Core.Path.{_≡_};
 ghost use mathlib.Core.Bool.{true};
+ghost use Prim.Native.Nat.{_-_, _≤_};
 ghost use lib.ListN.{length};
 ghost use lib.Dec.{leb};
-ghost use Rattle.try_entries.specs.Item.{complete};
+ghost use Rattle.try_entries.specs.Item.{wordAt, complete};
 
 fn next(byte: u8, more: u8) -> u8 {
     std::num::wrapping_add_u8(byte, more)
@@ -22,13 +23,20 @@ fn fill(area: &mut [u8], first: u8, more: u8) {
     }
 }
 
-fn call(entry: u8, number: u32, book: &[u8], query: &[u8], area: &mut [u8]) -> bool
+fn call(
+    entry: u8,
+    number: u32,
+    book: &[u8],
+    query: &[u8],
+    area: &mut [u8],
+    answer: &mut [u8],
+) -> bool
     ensures { λ r. ⌜ r ≡ true ⌝ }
 {
     match entry {
         3 => entries::step(book, query, area),
-        4 => entries::run(book, query, number, area),
-        5 => entries::run_for_c(book, query, number, area),
+        4 => entries::run(book, query, number, area, answer),
+        5 => entries::run_for_c(book, query, number, area, answer),
         6 => entries::pick(book, query),
         7 => entries::apply(book, query, number, area),
         8 => entries::pick_for_c(book, query),
@@ -37,33 +45,53 @@ fn call(entry: u8, number: u32, book: &[u8], query: &[u8], area: &mut [u8]) -> b
 }
 
 // Book and query one behind the other.
-fn apart(entry: u8, number: u32, both: &[u8], book: usize, area: &mut [u8]) -> bool
+fn apart(
+    entry: u8,
+    number: u32,
+    both: &[u8],
+    book: usize,
+    area: &mut [u8],
+    answer: &mut [u8],
+) -> bool
     ensures { λ r. ⌜ r ≡ leb book (length (now (both .entry))) ⌝ }
 {
     if both.len() < book {
         return false;
     }
-    call(entry, number, &both[0..book], &both[book..], area)
+    call(entry, number, &both[0..book], &both[book..], area, answer)
 }
 
-// Whether the item has all that its entry is called with; then it is.
-pub fn entry(entry: u8, item: &[u8], area: &mut [u8]) -> bool
-    ensures { λ r. ⌜ r ≡ complete (now (item .entry)) (length (now (area .entry))) ⌝ }
+// The item has its fields, and the areas lent are as long as it says.
+fn with_areas(entry: u8, item: &[u8], area: &mut [u8], answer: &mut [u8]) -> bool
+    requires { ⌜ 20 ≤ length (now item) ⌝ }
+    ensures { λ r. ⌜ r ≡ leb (wordAt (now (item .entry)) 16) (length (now (item .entry)) - 20) ⌝ }
 {
-    if item.len() < 14 {
-        return false;
-    }
-    let length = number::at(item, 4) as usize;
-    if area.len() < length {
-        return false;
-    }
-    let lent = &mut area[0..length];
-    fill(lent, item[8], item[9]);
+    fill(area, item[8], item[9]);
+    fill(answer, item[14], item[15]);
     apart(
         entry,
         number::at(item, 0),
-        &item[14..],
-        number::at(item, 10) as usize,
-        lent,
+        &item[20..],
+        number::at(item, 16) as usize,
+        area,
+        answer,
     )
+}
+
+// Whether the item has all that its entry is called with; then it is.
+pub fn entry(entry: u8, item: &[u8], area: &mut [u8], answer: &mut [u8]) -> bool
+    ensures { λ r. ⌜ r ≡ complete (now (item .entry)) (length (now (area .entry))) (length (now (answer .entry))) ⌝ }
+{
+    if item.len() < 20 {
+        return false;
+    }
+    let goal = number::at(item, 4) as usize;
+    if area.len() < goal {
+        return false;
+    }
+    let said = number::at(item, 10) as usize;
+    if answer.len() < said {
+        return false;
+    }
+    with_areas(entry, item, &mut area[0..goal], &mut answer[0..said])
 }

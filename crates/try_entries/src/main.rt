@@ -1,4 +1,4 @@
-// Tries the entries on a stream of items from standard input, and writes a line for each: the answer's numbers and, where an area is lent, a sum
+// Tries the entries on a stream of items from standard input, and writes a line for each: the answer's numbers and, for each area that is lent, a sum
 // over all of its bytes.
 //
 // An item is its entry's number (1 byte), the length of what follows (4 bytes), and that: a book to check (1), a query to check (2), or what goes
@@ -16,17 +16,17 @@ fn damaged() -> bool {
     false
 }
 
-fn tried(entry: u8, item: &[u8], area: &mut [u8]) -> bool {
+fn tried(entry: u8, item: &[u8], area: &mut [u8], answer: &mut [u8]) -> bool {
     match entry {
         1 => entries::check_book(item),
         2 => entries::check_query(item),
-        3..=9 => lent::entry(entry, item, area),
+        3..=9 => lent::entry(entry, item, area, answer),
         _ => false,
     }
 }
 
 // The rest of an item, of a length that was read before it.
-fn rest(entry: u8, length: usize, item: &mut [u8], area: &mut [u8]) -> bool {
+fn rest(entry: u8, length: usize, item: &mut [u8], area: &mut [u8], answer: &mut [u8]) -> bool {
     if item.len() < length {
         return damaged();
     }
@@ -34,25 +34,25 @@ fn rest(entry: u8, length: usize, item: &mut [u8], area: &mut [u8]) -> bool {
     if n < length {
         return damaged();
     }
-    if tried(entry, &item[0..length], area) {
+    if tried(entry, &item[0..length], area, answer) {
         return true;
     }
     damaged()
 }
 
 // Whether another item may follow.
-fn one(item: &mut [u8], area: &mut [u8]) -> bool {
+fn one(item: &mut [u8], area: &mut [u8], answer: &mut [u8]) -> bool {
     let mut first = [0u8; 5];
     match io::read_full(STDIN_FILENO, &mut first) {
         0 => false,
-        5 => rest(first[0], number::at(&first, 1) as usize, item, area),
+        5 => rest(first[0], number::at(&first, 1) as usize, item, area, answer),
         _ => damaged(),
     }
 }
 
-fn all(item: &mut [u8], area: &mut [u8]) {
+fn all(item: &mut [u8], area: &mut [u8], answer: &mut [u8]) {
     for i in 0..4294967295u32 {
-        if !one(item, area) {
+        if !one(item, area, answer) {
             return;
         }
     }
@@ -61,5 +61,6 @@ fn all(item: &mut [u8], area: &mut [u8]) {
 fn main() {
     let mut item = [0u8; 98304];
     let mut area = [0u8; 40960];
-    all(&mut item, &mut area);
+    let mut answer = [0u8; 40960];
+    all(&mut item, &mut area, &mut answer);
 }
