@@ -8,7 +8,7 @@
 
 #include "pitxargole.h"
 
-static uint8_t input[49163], area[PITXARGOLE_AREA];
+static uint8_t input[49163], area[PITXARGOLE_AREA], instance[PITXARGOLE_AREA];
 
 static double now(void) {
     struct timespec t;
@@ -34,7 +34,7 @@ static void measure(const char *name) {
     unsigned long runs = 0;
     double start = now(), spent = 0;
     while (spent < 5e8) {
-        answer = pitxargole_run(budget, input + 8, book, query, length - 8 - book, area, sizeof area);
+        answer = pitxargole_run(budget, input + 8, book, query, length - 8 - book, area, sizeof area, instance, sizeof instance);
         runs++;
         spent = now() - start;
     }

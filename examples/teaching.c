@@ -23,6 +23,7 @@ static const uint8_t unknown[] = {6, 0, 1, 4, 0, 5, 2, 1, 0, 0, 2, 0, 2};
 
 /* The goal and the next goal take turns in them. */
 static uint8_t areas[2][PITXARGOLE_AREA];
+static uint8_t instance[PITXARGOLE_AREA];
 
 static void show(uint32_t rule) { printf("  rule %u: %s\n", (unsigned)rule, rules[rule]); }
 
@@ -66,7 +67,7 @@ static void choose(uint32_t rule) {
 
 /* The same reason after a run, from the goal that it left. */
 static void run_stuck(void) {
-    uint64_t answer = pitxargole_run(10000, book, sizeof book, stuck, sizeof stuck, areas[0], sizeof areas[0]);
+    uint64_t answer = pitxargole_run(10000, book, sizeof book, stuck, sizeof stuck, areas[0], sizeof areas[0], instance, sizeof instance);
     printf("code %u after %u steps\n", (unsigned)pitxargole_code(answer), (unsigned)pitxargole_steps(answer));
     closed(pitxargole_pick(book, sizeof book, areas[0], pitxargole_place_or_bytes(answer)));
 }

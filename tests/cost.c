@@ -25,7 +25,7 @@ void *memcpy(void *restrict to, const void *restrict from, size_t length) {
     return to;
 }
 
-static uint8_t book[128], query[PITXARGOLE_AREA], area[PITXARGOLE_AREA];
+static uint8_t book[128], query[PITXARGOLE_AREA], area[PITXARGOLE_AREA], instance[PITXARGOLE_AREA];
 static size_t book_length, query_length;
 static unsigned steps;
 
@@ -149,7 +149,7 @@ int main(int words, char **word) {
     for (size_t i = 0; i < sizeof shapes / sizeof *shapes; i++) {
         if (strcmp(word[1], shapes[i].name)) continue;
         shapes[i].build((unsigned)atoi(word[2]));
-        uint64_t answer = pitxargole_run(10000, book, book_length, query, query_length, area, sizeof area);
+        uint64_t answer = pitxargole_run(10000, book, book_length, query, query_length, area, sizeof area, instance, sizeof instance);
         return pitxargole_code(answer) == PITXARGOLE_UNKNOWN && pitxargole_steps(answer) == steps ? 0 : 1;
     }
     return 2;

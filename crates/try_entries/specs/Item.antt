@@ -10,10 +10,14 @@ use Rattle.terms.specs.When.{_⇒_∣_}
 abbrev pub wordAt : List ℕ → ℕ → ℕ
 wordAt s at = getD s at 0 * 16777216 + getD s (at + 1) 0 * 65536 + getD s (at + 2) 0 * 256 + getD s (at + 3) 0
 
--- the item has its 20 bytes, the goal area's length is at most `room` and the answer area's at most `space`, and the book does not go past the item's end
+-- behind the item's 20 bytes the book does not go past its end
+unfoldable pub holds-book : List ℕ → Bool
+holds-book item = leb (wordAt item 16) (length item - 20)
+
+-- the item has its 20 bytes, the goal area's length is at most `room` and the answer area's at most `space`, and it holds the book
 unfoldable pub complete : List ℕ → ℕ → ℕ → Bool
 complete item room space =
     ltb (length item) 20 ⇒ false
     ∣ ltb room (wordAt item 4) ⇒ false
     ∣ ltb space (wordAt item 10) ⇒ false
-    ∣ leb (wordAt item 16) (length item - 20)
+    ∣ holds-book item

@@ -5,10 +5,10 @@ use crate::entries;
 use crate::number;
 ghost use mathlib.Core.Path.{_≡_};
 ghost use mathlib.Core.Bool.{true};
-ghost use Prim.Native.Nat.{_-_, _≤_};
+ghost use Prim.Native.Nat.{_≤_};
 ghost use lib.ListN.{length};
 ghost use lib.Dec.{leb};
-ghost use Rattle.try_entries.specs.Item.{wordAt, complete};
+ghost use Rattle.try_entries.specs.Item.{holds-book, complete};
 
 fn next(byte: u8, more: u8) -> u8 {
     std::num::wrapping_add_u8(byte, more)
@@ -64,7 +64,7 @@ fn apart(
 // The item has its fields, and the areas lent are as long as it says.
 fn with_areas(entry: u8, item: &[u8], area: &mut [u8], answer: &mut [u8]) -> bool
     requires { ⌜ 20 ≤ length (now item) ⌝ }
-    ensures { λ r. ⌜ r ≡ leb (wordAt (now (item .entry)) 16) (length (now (item .entry)) - 20) ⌝ }
+    ensures { λ r. ⌜ r ≡ holds-book (now (item .entry)) ⌝ }
 {
     fill(area, item[8], item[9]);
     fill(answer, item[14], item[15]);

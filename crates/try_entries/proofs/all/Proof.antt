@@ -6,10 +6,10 @@ use Rattle.try_entries.proofs.all.Statement.{statement}
 use Rattle.try_entries.proofs.all.Tie as tie
 
 abbrev Inv-loop : tie.InvT-loop
-Inv-loop item₀ area₀ i₀ item area i = (length item ≡ length item₀) × (length area ≡ length area₀)
+Inv-loop item₀ area₀ answer₀ i₀ item area answer i = (length item ≡ length item₀) × (length area ≡ length area₀) × (length answer ≡ length answer₀)
 
 abbrev μ-loop : tie.MeasureT-loop
-μ-loop item₀ area₀ i₀ item area i = 4294967295 - i
+μ-loop item₀ area₀ answer₀ i₀ item area answer i = 4294967295 - i
 
 pub all-spec : {M : Type 1} → statement M
 all-spec =
@@ -19,6 +19,8 @@ all-spec =
     μ-loop
     (λ c. search needs)
     (λ c κs. search needs)
+    (λ c. search needs)
+    (λ c. search needs)
     (λ c. search needs)
     (λ c. search needs)
     (λ c. search needs)

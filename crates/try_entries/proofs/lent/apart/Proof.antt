@@ -17,4 +17,5 @@ apart-spec =
     (λ c. search needs)
     (λ c κs. search needs)
     (λ c. search needs)
-    (λ c. c .before .before .call .ensures ∙ inv (le-leb _ _ (c .before .before .before .before .before .before .if1 .left))))
+    (λ c. search needs)
+    (λ c. c .before .before .before .before .call .ensures ∙ inv (le-leb _ _ (c .before .before .before .before .before .before .before .before .before .if1 .left))))
