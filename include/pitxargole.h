@@ -39,7 +39,7 @@ extern "C" {
 #define PITXARGOLE_NO_CLAUSE 32 /* the book has no clause of that number */
 #define PITXARGOLE_NO_FIT 33    /* the clause's head does not unify with the leftmost formula */
 
-/* Every book and query, however damaged, gets one answer. The pointers are not null, also where a length is 0, and `area` and `answer` overlap neither book
+/* Every book and query, however damaged, gets one number. The pointers are not null, also where a length is 0, and `area` and `answer` overlap neither book
    nor query nor each other. Lengths have 64 bits on every processor.
 
    Runs the query by the book for at most `budget` steps. The answer is the query's formulas with what the steps have found out of their variables: solved,
@@ -57,16 +57,16 @@ uint64_t pitxargole_pick(const uint8_t *book, uint64_t book_length, const uint8_
 uint64_t pitxargole_apply(uint32_t clause, const uint8_t *book, uint64_t book_length, const uint8_t *query, uint64_t query_length, uint8_t *area,
                           uint64_t area_length);
 
-/* The parts of an answer, by the engine's own proved functions: */
-uint8_t pitxargole_code(uint64_t answer);
-uint32_t pitxargole_place_or_bytes(uint64_t answer); /* the place of the first fault for codes 1 to 19, and otherwise the bytes of the goal's image */
-uint32_t pitxargole_steps(uint64_t answer);          /* of a run */
+/* The parts of the number, by the engine's own proved functions: */
+uint8_t pitxargole_code(uint64_t number);
+uint32_t pitxargole_place_or_bytes(uint64_t number); /* the place of the first fault for codes 1 to 19, and otherwise the bytes of the goal's image */
+uint32_t pitxargole_steps(uint64_t number);          /* of a run */
 
 /* The clause number that a pick or an apply gives with STEP; with STUCK the clause, of the leftmost formula's predicate and arity, whose head got furthest,
    and the lowest of these. */
-static inline uint32_t pitxargole_clause(uint64_t answer) { return (uint32_t)(answer >> 32) & 0xffff; }
+static inline uint32_t pitxargole_clause(uint64_t number) { return (uint32_t)(number >> 32) & 0xffff; }
 /* With a pick's STUCK that head's first argument, from 1, at which the arguments up to and including it can't be unified together; otherwise 0. */
-static inline uint32_t pitxargole_argument(uint64_t answer) { return (uint32_t)(answer >> 48); }
+static inline uint32_t pitxargole_argument(uint64_t number) { return (uint32_t)(number >> 48); }
 
 #ifdef __cplusplus
 }

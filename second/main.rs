@@ -8,6 +8,7 @@
 //   second trace               reads what the program `trace` reads, and prints what it prints
 //   second read              reads rules as text (document 02, C-13), and prints code, place, bytes of the book and of the names, and a sum over each
 //   second pack N              reads a book and a query in document 01's notation, and writes them with budget N as `trace` reads them
+//   second say N               reads the same, and prints what `trace` prints, the answer in the notation, and behind `if` the goal that is left
 mod answers;
 mod build;
 mod chains;
@@ -105,6 +106,22 @@ fn pack(text: &str, budget: u32) -> Result<Vec<u8>, String> {
     Ok([&budget.to_be_bytes()[..], &(book.len() as u32).to_be_bytes(), &book, &query].concat())
 }
 
+/// A run's numbers, its answer and the goal that is left.
+fn say(text: &str, budget: u32) -> Result<String, String> {
+    let mut names = notation::Names::default();
+    let mut text = notation::Text::new(text, &mut names);
+    let (clauses, query) = (text.clauses()?, text.query()?);
+    let (book, image) = (image::of_book(&clauses), image::of(&query));
+    let a = entries::run(&book, &image, budget, &mut [0; 16387], &mut [0; 16387]);
+    let numbers = format!("{} {} {} {} {}", a.code, a.place, a.steps, a.span, a.bytes);
+    if a.code < 20 {
+        return Ok(numbers);
+    }
+    let (_, _, state) = path::follow(&clauses, query, budget);
+    let left = if state.goal.is_empty() { String::new() } else { format!(" if {}", names.goal(&state.goal)) };
+    Ok(format!("{numbers}: {}{left}", names.goal(&state.answer)))
+}
+
 fn text(bytes: &[u8]) -> String {
     match text::read(bytes) {
         Ok(read) => {
@@ -120,10 +137,18 @@ fn input() -> Vec<u8> {
     bytes
 }
 
+fn steps(budget: &str) -> Result<u32, String> {
+    budget.parse().map_err(|_| "a budget is a number below 2^32".to_string())
+}
+
 fn packed(budget: &str) -> Done {
-    let budget = budget.parse().map_err(|_| "a budget is a number below 2^32")?;
-    let bytes = pack(&String::from_utf8_lossy(&input()), budget)?;
+    let bytes = pack(&String::from_utf8_lossy(&input()), steps(budget)?)?;
     std::io::stdout().write_all(&bytes).map_err(|e| e.to_string())
+}
+
+fn said(budget: &str) -> Done {
+    println!("{}", say(&String::from_utf8_lossy(&input()), steps(budget)?)?);
+    Ok(())
 }
 
 fn long(seed: &str, count: &str) -> Done {
@@ -144,7 +169,11 @@ fn chosen() -> Done {
         ["trace"] => Ok(println!("{}", trace(&input()))),
         ["read"] => Ok(println!("{}", text(&input()))),
         ["pack", budget] => packed(budget),
-        _ => Err("second stream SEED COUNT | stored | answers | item N | table | trace | read | pack BUDGET".to_string()),
+        ["say", budget] => said(budget),
+        _ => {
+            Err("second stream SEED COUNT | stored | answers | item N | table | trace | read | pack BUDGET | say BUDGET"
+                .to_string())
+        }
     }
 }
 

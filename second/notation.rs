@@ -10,6 +10,30 @@ pub struct Names {
     predicates: Vec<String>,
 }
 
+/// `name(first,second)`, or the name alone.
+fn applied(name: &str, arguments: Vec<String>) -> String {
+    if arguments.is_empty() { name.to_string() } else { format!("{name}({})", arguments.join(",")) }
+}
+
+impl Names {
+    fn term(&self, term: &Tree) -> String {
+        match &**term {
+            Term::Variable(number) => format!("V{number}"),
+            Term::Constant(symbol) => self.constants[*symbol as usize].clone(),
+            Term::Compound(symbol, inner) => {
+                applied(&self.compounds[*symbol as usize], inner.iter().map(|t| self.term(t)).collect())
+            }
+        }
+    }
+
+    /// A goal in the notation, with its variables by their numbers.
+    pub fn goal(&self, goal: &Goal) -> String {
+        let formula =
+            |f: &Formula| applied(&self.predicates[f.predicate as usize], f.arguments.iter().map(|t| self.term(t)).collect());
+        goal.iter().map(formula).collect::<Vec<_>>().join(", ")
+    }
+}
+
 /// The name's number in its list, to which a new name is added.
 fn number(list: &mut Vec<String>, name: &str) -> u16 {
     if let Some(at) = list.iter().position(|n| n == name) {
