@@ -16,12 +16,14 @@ archive() {
     [ -f $built ] && [ -z "$(find crates crates.txt -newer $built -print -quit)" ] || rt staticlib engine >target/archive.log 2>&1 || { cat target/archive.log; return 1; }
 }
 
-# for_c: the compiler for C programs that link the archive, and what runs them. Where one is missing the script is skipped.
+# c_compiler: the name of the compiler for C programs that link the archive.
+c_compiler() { if [ "$(uname -m)" = x86_64 ]; then echo cc; else echo x86_64-linux-gnu-gcc; fi; }
+
+# for_c: that compiler, and what runs its programs. Where one is missing the script is skipped.
 for_c() {
-    compiler=cc
+    compiler=$(c_compiler)
     run=()
     if [ "$(uname -m)" != x86_64 ]; then
-        compiler=x86_64-linux-gnu-gcc
         run=("$tools/bin/qemu-x86_64" "$tools/lib/ld-linux-x86-64.so.2" --library-path "$tools/lib")
         if ! command -v "$compiler" >/dev/null && [ "$(id -u)" = 0 ]; then
             { apt-get update -qq && apt-get install -y -qq gcc-x86-64-linux-gnu; } >/dev/null 2>&1
