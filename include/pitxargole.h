@@ -43,8 +43,8 @@ extern "C" {
    nor query nor each other. Lengths have 64 bits on every processor.
 
    Runs the query by the book for at most `budget` steps. The answer is the query's formulas with what the steps have found out of their variables: solved,
-   `feeds(V,c7)` is `feeds(v3,c7)`. Its image is a goal's, `answer[1] * 256 + answer[2]` formulas of the query's own predicates and no byte behind them, so
-   that its length need not be said. The goal's variables have the goal's numbers in it, and the others come after them. */
+   `feeds(V,c7)` is `feeds(v3,c7)`. Its image is a goal's, with as many formulas as the query, and says itself where it ends. Variables that the last goal has too
+   have the goal's numbers; the others come after them. */
 uint64_t pitxargole_run(uint32_t budget, const uint8_t *book, uint64_t book_length, const uint8_t *query, uint64_t query_length, uint8_t *area,
                         uint64_t area_length, uint8_t *answer, uint64_t answer_length);
 

@@ -68,25 +68,24 @@ pub struct Fit {
     solution: Solution,
 }
 
-fn fit_beside(clause: &Clause, goal: &Goal, answer: &Goal) -> Option<Fit> {
+fn fit_moved(clause: &Clause, goal: &Goal, apart: u32) -> Option<Fit> {
     if !clause.head.same_predicate(&goal[0]) {
         return None;
     }
-    let apart = unused(goal).max(unused(answer));
     unify(&goal[0], &moved(&clause.head, apart)).map(|solution| Fit { apart, solution })
 }
 
 pub fn fit(clause: &Clause, goal: &Goal) -> Option<Fit> {
-    fit_beside(clause, goal, &Vec::new())
+    fit_moved(clause, goal, unused(goal))
 }
 
-fn fitting_beside(clauses: &[Clause], goal: &Goal, answer: &Goal) -> Option<(usize, Fit)> {
-    clauses.iter().enumerate().find_map(|(number, clause)| Some((number, fit_beside(clause, goal, answer)?)))
+fn fitting_moved(clauses: &[Clause], goal: &Goal, apart: u32) -> Option<(usize, Fit)> {
+    clauses.iter().enumerate().find_map(|(number, clause)| Some((number, fit_moved(clause, goal, apart)?)))
 }
 
 /// The first clause whose head unifies with the leftmost formula.
 pub fn fitting(clauses: &[Clause], goal: &Goal) -> Option<(usize, Fit)> {
-    fitting_beside(clauses, goal, &Vec::new())
+    fitting_moved(clauses, goal, unused(goal))
 }
 
 /// What no fitting clause means: 22 where the book has clauses of the leftmost formula's predicate and arity, and 26 where it has none.
@@ -171,7 +170,8 @@ pub fn follow(clauses: &[Clause], query: Goal, budget: u32) -> (u8, u32, State) 
         if state.looped() {
             return (21, state.t - state.saved_at, state);
         }
-        let Some((number, fit)) = fitting_beside(clauses, &state.goal, &state.answer) else {
+        let apart = unused(&state.goal).max(unused(&state.answer));
+        let Some((number, fit)) = fitting_moved(clauses, &state.goal, apart) else {
             return (none_fits(clauses, &state.goal), 0, state);
         };
         if state.t == budget {
