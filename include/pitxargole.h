@@ -1,5 +1,5 @@
 /* Pitxargole for C firmware: the run with its answer (document 01; document 02, C-11), and the single step in two, pick and apply (C-16). Link with the archive that
-   `rt staticlib engine` writes. */
+   `rt staticlib engine` writes for x86-64, or `ports/build` for another processor. */
 #ifndef PITXARGOLE_H
 #define PITXARGOLE_H
 
@@ -11,6 +11,10 @@ extern "C" {
 
 /* A goal area has at least so many bytes, and so has an answer area. */
 #define PITXARGOLE_AREA 16387
+
+/* No call needs more bytes of stack than this, on any processor of ports/targets, with what the C library's memcpy and memset take. tests/module holds the
+   number to the compiled engine's frames. */
+#define PITXARGOLE_STACK 180224
 
 /* Codes. The input was refused, and the areas are as they were: */
 #define PITXARGOLE_AREA_SHORT 1    /* goal area or answer area too short */

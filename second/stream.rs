@@ -140,6 +140,17 @@ fn random_items(lines: &[Line], dice: &mut Dice) -> Vec<Item> {
     }
 }
 
+/// So many items at random, from a seed.
+pub fn random(seed: u64, count: usize) -> Vec<Item> {
+    let (mut dice, lines) = (Dice::new(seed), list::lines(list::RANDOM));
+    let mut items = Vec::new();
+    while items.len() < count {
+        items.extend(random_items(&lines, &mut dice).into_iter().filter(Item::has_room));
+    }
+    items.truncate(count);
+    items
+}
+
 /// So many items, from a seed: first those that are always there.
 pub fn long(seed: u64, count: usize) -> Vec<Item> {
     let mut dice = Dice::new(seed);

@@ -9,11 +9,10 @@ on_kit() {
     "$@"
 }
 
-# archive: target/staticlib/libengine.a, made anew where a crate has changed since.
+# archive: target/staticlib/libengine.a, made anew where a crate has changed since, with the module of which ports/build makes other archives.
 archive() {
     built=target/staticlib/libengine.a
-    mkdir -p target
-    [ -f $built ] && [ -z "$(find crates crates.txt -newer $built -print -quit)" ] || rt staticlib engine >target/archive.log 2>&1 || { cat target/archive.log; return 1; }
+    ports/module engine
 }
 
 # c_compiler: the name of the compiler for C programs that link the archive.
