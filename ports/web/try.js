@@ -1,0 +1,67 @@
+// node try.js FOLDER: the page's parts without a browser, with engine.wasm and trace.wasm of the folder. The reader makes the bytes that the second program makes of
+// the example books, `trace` prints the lines that the demonstration prints, and the words are those that a rule writer is to see.
+"use strict";
+
+const assert = require("node:assert");
+const { readFileSync } = require("node:fs");
+const { join } = require("node:path");
+for (const part of ["engine", "notation", "answer", "circle"]) Object.assign(globalThis, require(`./${part}.js`));
+
+const [folder] = process.argv.slice(2);
+const plant = join(__dirname, "../../examples/plant");
+const modules = { engine: readFileSync(join(folder, "engine.wasm")), trace: readFileSync(join(folder, "trace.wasm")) };
+const rules = readFileSync(join(plant, "rules"), "utf8");
+const queryOf = (name) => readFileSync(join(plant, `${name}.query`), "utf8").trim();
+const answerTo = (rules, query, budget = 10000) => answerOf(modules, { rules, query, budget });
+
+// The example books: the packed bytes, the numbers and the words.
+const said = {
+    solved: "Solved after 3 steps.",
+    stuck: "Stuck after 2 steps: no rule fits the first formula of opens(valve_3,c8). Rule 3, opens(valve_3,c7). gets furthest, and fails at argument 2.",
+    mistyped:
+        "After 0 steps no rule at all has the predicate and number of arguments of the first formula of suplies(V0,c7): a slip of the pen, most likely.",
+    loop: "A loop, found at step 1: the leftmost formula comes back every step, and the search would never end. The goal there: upstream(tank,V0), pipe(V0,V1)",
+};
+
+async function examples() {
+    const expected = readFileSync(join(plant, "expected"), "utf8").split("\n");
+    for (const [i, name] of Object.keys(said).entries()) {
+        const { book, query } = packed({ rules, query: queryOf(name) });
+        assert.deepStrictEqual(Buffer.from(traceInput(10000, book, query)), readFileSync(join(plant, `${name}.input`)), name);
+        const { numbers, words } = await answerTo(rules, queryOf(name));
+        assert.strictEqual(`code place steps span bytes: ${numbers.join(" ")}`, expected[i]);
+        assert.strictEqual(words, said[name]);
+    }
+}
+
+async function circles() {
+    const turning = "p(X) :- q(f(X)), s. q(f(X)) :- r(X). r(X) :- p(X).";
+    const { numbers, stations } = await answerTo(turning, "p(a)");
+    assert.strictEqual(Number(numbers[3]), 3);
+    assert.deepStrictEqual([...stations].sort(), ["p(a)", "q(f(a))", "r(a)"]);
+    assert.strictEqual(stations.indexOf("q(f(a))"), (stations.indexOf("p(a)") + 1) % 3);
+    const svg = circleOf(stations);
+    assert.strictEqual(svg.split('class="station"').length - 1, 3);
+    assert.ok(svg.includes(">q(f(a))<"));
+    assert.strictEqual(circleOf([]), "");
+    assert.ok(circleOf(["p(<&)"]).includes("p(&lt;&amp;)"));
+}
+
+async function others() {
+    const counting = "n(X) :- n(s(X)).";
+    assert.strictEqual((await answerTo(counting, "n(o)", 2)).words, "The steps are used up: after 2 steps the goal is n(s(s(o)))");
+    assert.match((await answerTo(counting, "n(o)", 5000)).words, /^No room for the next goal: after 4094 steps the goal is n\(s\(.* …$/);
+    assert.strictEqual((await answerTo("p(a,a,a,a,a,a,a,a,a).", "p")).words, "The book is refused at byte 2: a number of arguments or formulas is out of range.");
+    assert.strictEqual((await answerTo("p.", "p(_,_,_,_,_,_,_,_,_)")).words, "The query is refused at byte 3: a number of arguments or formulas is out of range.");
+    assert.strictEqual((await answerTo("p. % one\n q :- p, % two\n p.", "?- q, q.")).words, "Solved after 6 steps.");
+    await assert.rejects(answerTo("p.\nq(a :- p.", "p"), { message: "line 2: “)” expected before “:- p.”" });
+    await assert.rejects(answerTo("p.", "p q"), { message: "line 1: “.” expected before “q”" });
+}
+
+Promise.all([examples(), circles(), others()]).then(
+    () => console.log("the page's parts: ok"),
+    (fault) => {
+        console.error(fault.message);
+        process.exitCode = 1;
+    },
+);
