@@ -24,7 +24,7 @@ struct item {
 
 /* Behind the area's room stand bytes that no call may change. */
 #define BEHIND 64
-static uint8_t rest[98304], before[98304], area[65536 + BEHIND];
+static uint8_t rest[98304], rest_before[98304], area[65536 + BEHIND], area_before[65536 + BEHIND];
 
 static uint32_t number(const uint8_t *at) { return (uint32_t)at[0] << 24 | (uint32_t)at[1] << 16 | (uint32_t)at[2] << 8 | at[3]; }
 
@@ -125,11 +125,23 @@ static int parts(uint64_t answer) {
            pitxargole_steps(answer) == (uint32_t)(answer >> 32);
 }
 
-static uint8_t byte_before(const struct item *i, size_t at) { return (uint8_t)(i->first + i->more * at); }
+/* The area and what is behind it, as the item has them before the call. What its bytes rise by comes round after 256 at the latest. */
+static void fill(const struct item *i) {
+    size_t length = i->room + BEHIND, done = 256;
+    for (size_t at = 0; at < done; at++) area_before[at] = (uint8_t)(i->first + i->more * at);
+    for (; done < length; done *= 2) memcpy(area_before + done, area_before, done < length - done ? done : length - done);
+    memcpy(area, area_before, length);
+}
+
+/* Behind the last byte that the call changed, of so many. */
+static size_t changed(size_t end) {
+    while (end >= 256 && !memcmp(area + end - 256, area_before + end - 256, 256)) end -= 256;
+    while (end > 0 && area[end - 1] == area_before[end - 1]) end--;
+    return end;
+}
 
 static void show(const struct item *i, uint64_t answer) {
-    size_t end = i->room + BEHIND;
-    while (end > 0 && area[end - 1] == byte_before(i, end - 1)) end--;
+    size_t end = changed(i->room + BEHIND);
     if (end > i->room) say("past the area: ");
     say("%08lx%08lx ", (unsigned long)(answer >> 32), (unsigned long)(answer & 0xffffffff));
     for (size_t at = 0; at < end; at++) {
@@ -143,10 +155,10 @@ static void show(const struct item *i, uint64_t answer) {
 /* Makes an item's call and shows it; the stack that it used. */
 static size_t play(const struct item *item, size_t length) {
     size_t used;
-    memcpy(before, rest, length);
-    for (size_t at = 0; at < item->room + BEHIND; at++) area[at] = byte_before(item, at);
+    memcpy(rest_before, rest, length);
+    fill(item);
     uint64_t answer = measured(call, item, &used);
-    if (memcmp(before, rest, length)) say("the input is changed: ");
+    if (memcmp(rest_before, rest, length)) say("the input is changed: ");
     if (!parts(answer) || !parts(~answer)) say("the parts are wrong: ");
     show(item, answer);
     return used;

@@ -14,19 +14,25 @@ row() {
     read -ra compiler_words <<<"${columns[3]}"
     read -ra runner_words <<<"${columns[4]}"
     read -ra packages <<<"${columns[5]}"
-    out=target/ports/${name/page/wasm32}
+    out=target/ports/${TEXT:+other/}${name/page/wasm32}
     mkdir -p "$out"
 }
 
-# missing: of the tools that the row's target is tried with, those that are not there. What is made for this machine itself needs no emulator, and the
-# kit has one for x86-64.
+# missing: the first of the tools that the row's target is tried with which is not there. What is made for this machine itself needs no emulator, and
+# the kit has one for x86-64.
 missing() {
-    local tool tools_needed=("${compiler_words[0]-}" "${runner_words[0]}")
+    local compiler=("${compiler_words[@]}") emulator=${runner_words[0]}
     case $name in
-        x86_64) tools_needed=("$([ "$(uname -m)" = x86_64 ] && echo cc || echo "${compiler_words[0]}")") ;;
-        "$(uname -m)") tools_needed=("${compiler_words[0]}") ;;
+        x86_64) emulator='' && { [ "$(uname -m)" != x86_64 ] || compiler=(cc); } ;;
+        "$(uname -m)") emulator='' ;;
     esac
-    for tool in "${tools_needed[@]}"; do [ -z "$tool" ] || command -v "$tool" >/dev/null || printf '%s ' "$tool"; done
+    if [ -n "$emulator" ] && ! command -v "$emulator" >/dev/null; then
+        echo "$emulator"
+    elif [ "${#compiler[@]}" -gt 0 ] && ! command -v "${compiler[0]}" >/dev/null; then
+        echo "${compiler[0]}"
+    elif [ "${#compiler[@]}" -gt 0 ] && ! "${compiler[@]}" -E -x c - <<<'#include <stdio.h>' >/dev/null 2>&1; then
+        echo "C library for ${compiler[0]}"
+    fi
 }
 
 # promise: the bytes of stack that the header promises to be enough.

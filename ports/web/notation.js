@@ -46,6 +46,12 @@ class Reader {
         if (!this.take(mark)) this.fail(`“${mark}”`);
     }
 
+    // A full stop has a blank, a comment or the text's end behind it.
+    stop() {
+        this.expect(".");
+        if (!/^(\s|%|$)/.test(this.text.slice(this.at, this.at + 1))) this.fail("a blank");
+    }
+
     word() {
         this.skip();
         const [word] = this.text.slice(this.at).match(/^[A-Za-z_][A-Za-z0-9_]*|/);
@@ -111,7 +117,7 @@ class Reader {
         this.counted(() => {
             this.formula();
             const count = this.take(":-") ? this.formulas() : 0;
-            this.expect(".");
+            this.stop();
             return count;
         });
         this.clauses.push(this.text.slice(from, this.at));
@@ -126,7 +132,7 @@ class Reader {
     query() {
         const marked = this.take("?-");
         const count = this.ended() ? 0 : this.formulas();
-        if (marked || !this.ended()) this.expect(".");
+        if (marked || !this.ended()) this.stop();
         if (!this.ended()) this.fail("the query's end");
         return Uint8Array.from([6, count >> 8, count & 255, ...this.records]);
     }

@@ -55,6 +55,7 @@ async function others() {
     assert.strictEqual((await answerTo("p.", "p(_,_,_,_,_,_,_,_,_)")).words, "The query is refused at byte 3: a number of arguments or formulas is out of range.");
     assert.strictEqual((await answerTo("p. % one\n q :- p, % two\n p.", "?- q, q.")).words, "Solved after 6 steps.");
     await assert.rejects(answerTo("p.\nq(a :- p.", "p"), { message: "line 2: “)” expected before “:- p.”" });
+    await assert.rejects(answerTo("p.q.", "p"), { message: "line 1: a blank expected before “q.”" });
     await assert.rejects(answerTo("p.", "p q"), { message: "line 1: “.” expected before “q”" });
 }
 
