@@ -10,6 +10,7 @@
 #include <unistd.h>
 
 #include "pitxargole.h"
+#include "run_book.h"
 #include "stack.h"
 
 enum { CHECK_BOOK = 1, CHECK_QUERY, STEP, RUN, RUN_FOR_C, PICK, APPLY, PICK_FOR_C, APPLY_FOR_C };
@@ -107,16 +108,11 @@ static size_t next(struct item *item) {
     return 0;
 }
 
-/* The one place where a run is called. */
-static uint64_t run_book(const struct item *i) {
-    return pitxargole_run(i->number, i->book, i->book_length, i->query, i->query_length, area, i->room);
-}
-
 static uint64_t call(const void *argument) {
     const struct item *i = argument;
     if (i->entry == PICK_FOR_C) return pitxargole_pick(i->book, i->book_length, i->query, i->query_length);
     if (i->entry == APPLY_FOR_C) return pitxargole_apply(i->number, i->book, i->book_length, i->query, i->query_length, area, i->room);
-    return run_book(i);
+    return run_book(i->number, i->book, i->book_length, i->query, i->query_length, area, i->room);
 }
 
 /* Whether the engine's functions give the parts that the number has, with no bit more where a register has more. */

@@ -4,6 +4,7 @@
 
 #include "cortex-m/own_stack.h"
 #include "pitxargole.h"
+#include "run_book.h"
 
 static const uint8_t book[] = {5, 0, 4, 0, 1, 1, 2, 0, 1, 7};
 static const uint8_t query[] = {6, 0, 2, 4, 0, 1, 1, 2, 0, 1, 4, 0, 1, 1, 2, 0, 1};
@@ -12,7 +13,7 @@ static uint8_t lent[PITXARGOLE_STACK] __attribute__((aligned(8)));
 
 static uint64_t call(const void *argument) {
     (void)argument;
-    return pitxargole_run(10000, book, sizeof book, query, sizeof query, area, sizeof area);
+    return run_book(10000, book, sizeof book, query, sizeof query, area, sizeof area);
 }
 
 int main(void) {
