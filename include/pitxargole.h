@@ -12,7 +12,7 @@ extern "C" {
 /* A goal area has at least so many bytes, and so has an answer area. */
 #define PITXARGOLE_AREA 16387
 
-/* No call needs more bytes of stack than this, on any processor of ports/targets, with what the C library's memcpy and memset take. tests/module holds the
+/* No call needs more bytes of stack than this, on any processor of ports/targets, with 1,024 for the C library's memcpy and memset. tests/module holds the
    number to the compiled engine's frames. */
 #define PITXARGOLE_STACK 180224
 
