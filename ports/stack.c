@@ -23,7 +23,7 @@ __attribute__((noinline)) static size_t deepest(void) {
 __attribute__((noinline)) uint64_t measured(uint64_t (*call)(const void *), const void *argument, size_t *used) {
     base = (volatile uint64_t *)((uintptr_t)__builtin_frame_address(0) / 8 * 8);
     paint();
-    uint64_t answer = call(argument);
+    uint64_t said = call(argument);
     *used = 8 * deepest();
-    return answer;
+    return said;
 }

@@ -1,7 +1,7 @@
 // The second program: document 01 in the most direct style, with trees and a list of equations, written apart from the engine.
 //
 //   second stream SEED COUNT   a stream of so many items, as the program `try_entries` reads them
-//   second random SEED COUNT   a stream of so many items at random, with none of those that the other begins with
+//   second calls SEED COUNT    a stream of so many calls for C, each once: those of the stored stream, and then others at random
 //   second stored              the stream that is stored beside that program
 //   second answers             reads a stream, and writes the lines that `try_entries` must write
 //   second item N              reads a stream, and shows its N-th item, from 1
@@ -163,7 +163,7 @@ fn chosen() -> Done {
     let words: Vec<String> = std::env::args().skip(1).collect();
     match words.iter().map(String::as_str).collect::<Vec<_>>()[..] {
         ["stream", seed, count] => made(stream::long, seed, count),
-        ["random", seed, count] => made(stream::random, seed, count),
+        ["calls", seed, count] => made(stream::calls, seed, count),
         ["stored"] => written(&stream::short()),
         ["answers"] => answers(&input()),
         ["item", n] => show(&input(), n),
@@ -173,7 +173,7 @@ fn chosen() -> Done {
         ["pack", budget] => packed(budget),
         ["say", budget] => said(budget),
         _ => {
-            Err("second stream SEED COUNT | random SEED COUNT | stored | answers | item N | table | trace | read | pack BUDGET | say BUDGET"
+            Err("second stream SEED COUNT | calls SEED COUNT | stored | answers | item N | table | trace | read | pack BUDGET | say BUDGET"
                 .to_string())
         }
     }

@@ -13,6 +13,7 @@ use crate::stuck;
 use crate::table;
 use crate::unknown;
 use crate::worked;
+use std::collections::HashSet;
 
 /// The clause numbers that are tried with a book: each from 0 to one past the book's, of a long book the first ones and the last; and the largest number.
 fn clause_numbers(book: &[u8], long: usize) -> Vec<u32> {
@@ -140,17 +141,6 @@ fn random_items(lines: &[Line], dice: &mut Dice) -> Vec<Item> {
     }
 }
 
-/// So many items at random, from a seed.
-pub fn random(seed: u64, count: usize) -> Vec<Item> {
-    let (mut dice, lines) = (Dice::new(seed), list::lines(list::RANDOM));
-    let mut items = Vec::new();
-    while items.len() < count {
-        items.extend(random_items(&lines, &mut dice).into_iter().filter(Item::has_room));
-    }
-    items.truncate(count);
-    items
-}
-
 /// So many items, from a seed: first those that are always there.
 pub fn long(seed: u64, count: usize) -> Vec<Item> {
     let mut dice = Dice::new(seed);
@@ -168,6 +158,24 @@ pub fn long(seed: u64, count: usize) -> Vec<Item> {
     }
     items.truncate(count);
     items
+}
+
+/// A run for C is tried where a run is.
+fn for_c(item: Item) -> Option<Item> {
+    match item.entry {
+        Entry::Run => Some(Item { entry: Entry::RunForC, ..item }),
+        Entry::RunForC | Entry::PickForC | Entry::ApplyForC => Some(item),
+        _ => None,
+    }
+}
+
+/// The calls for C of the stored stream, and then of items at random, from a seed: so many, and none of them twice.
+pub fn calls(seed: u64, count: usize) -> Vec<Item> {
+    let (mut dice, lines) = (Dice::new(seed), list::lines(list::RANDOM));
+    let mut before = HashSet::new();
+    let at_random = std::iter::from_fn(|| Some(random_items(&lines, &mut dice))).flatten();
+    let items = short().into_iter().chain(at_random.filter(Item::has_room));
+    items.filter_map(for_c).filter(|item| before.insert(item.bytes())).take(count).collect()
 }
 
 /// The documents' cases, the short list, short ones of the answers, and short items at random.

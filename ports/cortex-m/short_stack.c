@@ -4,22 +4,20 @@
 
 #include "cortex-m/own_stack.h"
 #include "pitxargole.h"
-#include "run_book.h"
 
 static const uint8_t book[] = {5, 0, 4, 0, 1, 1, 2, 0, 1, 7};
 static const uint8_t query[] = {6, 0, 2, 4, 0, 1, 1, 2, 0, 1, 4, 0, 1, 1, 2, 0, 1};
-static uint8_t area[PITXARGOLE_AREA];
+static uint8_t area[PITXARGOLE_AREA], answer[PITXARGOLE_AREA];
 static uint8_t lent[PITXARGOLE_STACK] __attribute__((aligned(8)));
 
 static uint64_t call(const void *argument) {
     (void)argument;
-    return run_book(10000, book, sizeof book, query, sizeof query, area, sizeof area);
+    return pitxargole_run(10000, book, sizeof book, query, sizeof query, area, sizeof area, answer, sizeof answer);
 }
 
 int main(void) {
     printf("enough: code %u\n", (unsigned)pitxargole_code(on_own_stack(call, NULL, lent, sizeof lent)));
     fflush(stdout);
-    uint64_t answer = on_own_stack(call, NULL, lent, 98304);
-    printf("too short: code %u\n", (unsigned)pitxargole_code(answer));
+    printf("too short: code %u\n", (unsigned)pitxargole_code(on_own_stack(call, NULL, lent, 98304)));
     return 0;
 }

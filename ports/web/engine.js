@@ -1,33 +1,36 @@
 // The engine in WebAssembly: the entries for C of engine.wasm, and the program `trace` in trace.wasm.
 "use strict";
 
-// A goal area's length (include/pitxargole.h).
+// The length of a goal area, and of an answer area (include/pitxargole.h).
 const AREA = 16387;
 
-// The parts of an answer (include/pitxargole.h).
-const codeOf = (answer) => Number(answer & 0xffn);
-const bytesIn = (answer) => Number((answer >> 8n) & 0xffffffn);
-const clauseOf = (answer) => Number((answer >> 32n) & 0xffffn);
-const argumentOf = (answer) => Number(answer >> 48n);
+// The parts of the number that comes back (include/pitxargole.h).
+const codeOf = (number) => Number(number & 0xffn);
+const bytesIn = (number) => Number((number >> 8n) & 0xffffffn);
+const clauseOf = (number) => Number((number >> 32n) & 0xffffn);
+const argumentOf = (number) => Number(number >> 48n);
+
+// Stands behind each row during a call, which may not change it.
+const BEHIND = new Uint8Array(64).fill(0xa5);
 
 // Puts byte rows into the engine's memory, one behind the other, from where its own data end; each as the two words, place and length, that a slice is for C.
 function layer({ memory, __heap_base }) {
     return (rows) => {
-        const end = rows.reduce((at, row) => at + row.length, __heap_base.value);
+        const end = rows.reduce((at, row) => at + row.length + BEHIND.length, __heap_base.value);
         const pages = Math.ceil((end - memory.buffer.byteLength) / 65536);
         if (pages > 0) memory.grow(pages);
         const bytes = new Uint8Array(memory.buffer);
         let at = __heap_base.value;
         return rows.map((row) => {
-            bytes.set(row, at);
-            at += row.length;
-            return [at - row.length, BigInt(row.length)];
+            const slice = [at, BigInt(row.length)];
+            for (const part of [row, BEHIND]) {
+                bytes.set(part, at);
+                at += part.length;
+            }
+            return slice;
         });
     };
 }
-
-// Stands behind the lent areas during a call, which may not change it.
-const BEHIND = new Uint8Array(64).fill(0xa5);
 
 // The entries on byte rows. A call that is lent an area changes it as the engine does.
 async function openEngine(wasm) {
@@ -36,15 +39,15 @@ async function openEngine(wasm) {
     const lay = layer(exported);
     const bytesAt = ([at, length]) => new Uint8Array(exported.memory.buffer, at, Number(length));
     const called = (entry, numbers, rows, lent) => {
-        const slices = lay([...rows, ...lent, BEHIND]);
-        const behind = slices.pop();
-        const answer = BigInt.asUintN(64, exported[entry](...numbers, ...slices.flat()));
-        if (bytesAt(behind).some((byte, i) => byte !== BEHIND[i])) throw new Error("the engine wrote past its area");
+        const slices = lay([...rows, ...lent]);
+        const number = BigInt.asUintN(64, exported[entry](...numbers, ...slices.flat()));
+        const kept = ([at, length]) => bytesAt([at + Number(length), BEHIND.length]).every((byte, i) => byte === BEHIND[i]);
+        if (!slices.every(kept)) throw new Error("the engine wrote past its areas");
         lent.forEach((area, i) => area.set(bytesAt(slices[rows.length + i])));
-        return answer;
+        return number;
     };
     return {
-        runBook: (budget, book, query, area) => called("pitxargole_run", [budget], [book, query], [area]),
+        run: (budget, book, query, area, answer) => called("pitxargole_run", [budget], [book, query], [area, answer]),
         pick: (book, query) => called("pitxargole_pick", [], [book, query], []),
         apply: (clause, book, query, area) => called("pitxargole_apply", [clause], [book, query], [area]),
         stack: () => new Uint8Array(exported.memory.buffer, 0, exported.__stack_pointer.value),

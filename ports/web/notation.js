@@ -164,4 +164,28 @@ function leftmost(image) {
     return Uint8Array.from(image, (byte, i) => (i === 1 ? 0 : i === 2 ? 1 : byte));
 }
 
-if (typeof module !== "undefined") module.exports = { Names, Reader, goalText, leftmost };
+// Behind the term that starts there.
+function behindTerm(image, at) {
+    for (let left = 1; left > 0; left--) {
+        const compound = image[at] === 3;
+        if (compound) left += image[at + 3];
+        at += compound ? 4 : 3;
+    }
+    return at;
+}
+
+// What the answer has for each variable of its query, by number, each as a goal of one part: where the query's image has a variable the answer's has a term, and
+// all else is the same in both (document 02, C-11).
+function valuesOf(query, answer) {
+    const values = [];
+    for (let at = 3, there = 3; at < query.length; ) {
+        const size = query[at] > 2 ? 4 : 3;
+        const end = query[at] === 1 ? behindTerm(answer, there) : there + size;
+        if (query[at] === 1) values[query[at + 1] * 256 + query[at + 2]] = Uint8Array.of(6, 0, 1, ...answer.subarray(there, end));
+        at += size;
+        there = end;
+    }
+    return values;
+}
+
+if (typeof module !== "undefined") module.exports = { Names, Reader, goalText, leftmost, valuesOf };

@@ -6,10 +6,12 @@ const inputs = ["rules", "query", "budget"];
 
 async function show() {
     const texts = Object.fromEntries(inputs.map((id) => [id, field(id).value]));
-    const nothing = { numbers: ["", "", "", "", ""], stations: [] };
-    const { numbers, words, stations } = await answerOf(wasm, texts).catch((fault) => ({ ...nothing, words: fault.message }));
+    const nothing = { numbers: ["", "", "", "", ""], values: [], instance: "", stations: [] };
+    const { numbers, words, values, instance, stations } = await answerOf(wasm, texts).catch((fault) => ({ ...nothing, words: fault.message }));
     [...field("numbers").cells].forEach((cell, i) => (cell.textContent = numbers[i]));
     field("words").textContent = words;
+    field("values").innerHTML = values.map((pair) => `<tr><th>${escaped(pair[0])}<td>${escaped(pair[1])}`).join("");
+    field("instance").textContent = instance;
     field("circle").innerHTML = circleOf(stations);
 }
 

@@ -1,9 +1,16 @@
 // What ports/replay.c does, for WebAssembly: in node (node replay.js ENGINE.WASM INPUTS) and in a page.
 "use strict";
 
-const RUN = 4, RUN_FOR_C = 5, PICK_FOR_C = 8, APPLY_FOR_C = 9;
+const PICK_FOR_C = 8, APPLY_FOR_C = 9;
 
-// The items that are calls for C.
+// An area as the item has it before the call: its length, its first byte, and what each has more than the one before it.
+function areaAt(view, at) {
+    const [area, first, more] = [new Uint8Array(view.getUint32(at)), view.getUint8(at + 4), view.getUint8(at + 5)];
+    for (let i = 0; i < area.length; i++) area[i] = first + more * i;
+    return area;
+}
+
+// The items, all of them calls for C.
 function* itemsOf(bytes) {
     const view = new DataView(bytes.buffer, bytes.byteOffset, bytes.length);
     for (let at = 0; at < bytes.length; ) {
@@ -11,28 +18,29 @@ function* itemsOf(bytes) {
         const end = at + 5 + view.getUint32(at + 1);
         const from = at + 5;
         at = end;
-        if (![RUN, RUN_FOR_C, PICK_FOR_C, APPLY_FOR_C].includes(entry)) continue;
-        const query = from + 14 + view.getUint32(from + 10);
-        const [number, room, first, more] = [view.getUint32(from), view.getUint32(from + 4), bytes[from + 8], bytes[from + 9]];
-        yield { entry, number, room, first, more, book: bytes.subarray(from + 14, query), query: bytes.subarray(query, end) };
+        const query = from + 20 + view.getUint32(from + 16);
+        const areas = [areaAt(view, from + 4), areaAt(view, from + 10)];
+        yield { entry, number: view.getUint32(from), areas, book: bytes.subarray(from + 20, query), query: bytes.subarray(query, end) };
     }
 }
 
-function called(engine, { entry, number, book, query }, area) {
+function called(engine, { entry, number, book, query }, [area, answer]) {
     if (entry === PICK_FOR_C) return engine.pick(book, query);
     if (entry === APPLY_FOR_C) return engine.apply(number, book, query, area);
-    return engine.runBook(number, book, query, area);
+    return engine.run(number, book, query, area, answer);
+}
+
+// The area's bytes up to the last that the call changed.
+function changed(area, before) {
+    let end = area.length;
+    while (end > 0 && area[end - 1] === before[end - 1]) end--;
+    return Array.from(area.subarray(0, end), (byte) => byte.toString(16).padStart(2, "0")).join("");
 }
 
 function lineOf(engine, item) {
-    const before = (i) => (item.first + item.more * i) & 255;
-    const area = new Uint8Array(item.room);
-    for (let i = 0; i < area.length; i++) area[i] = before(i);
-    const answer = called(engine, item, area);
-    let end = area.length;
-    while (end > 0 && area[end - 1] === before(end - 1)) end--;
-    const hex = Array.from(area.subarray(0, end), (byte) => byte.toString(16).padStart(2, "0"));
-    return `${answer.toString(16).padStart(16, "0")} ${hex.join("")}`;
+    const areas = item.areas.map((area) => area.slice());
+    const number = called(engine, item, areas);
+    return [number.toString(16).padStart(16, "0"), ...areas.map((area, i) => changed(area, item.areas[i]))].join(" ");
 }
 
 // How far down a call of an entry came in the stack, which is painted before it.

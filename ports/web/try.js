@@ -34,6 +34,27 @@ async function examples() {
     }
 }
 
+// The answer: each variable that has a name, with its value, and the instance.
+async function answers() {
+    const found = async (...texts) => (({ values, instance }) => [Object.fromEntries(values), instance])(await answerTo(...texts));
+    const solved = "supplies(pump_2,c7), feeds(pump_2,valve_3) follows from the rules.";
+    assert.deepStrictEqual(await found(rules, "opens(V,c7)"), [{ V: "valve_3" }, "opens(valve_3,c7) follows from the rules."]);
+    assert.deepStrictEqual(await found(rules, "supplies(P,c7), feeds(P,V)"), [{ P: "pump_2", V: "valve_3" }, solved]);
+    assert.deepStrictEqual(await found(rules, "feeds(P,V), opens(V,c8)"), [
+        { P: "pump_2", V: "valve_3" },
+        "So far: feeds(pump_2,valve_3), opens(valve_3,c8), if opens(valve_3,c8).",
+    ]);
+    assert.deepStrictEqual(await found(rules, queryOf("loop")), [{ V: "V1" }, "So far: upstream(tank,V1), if upstream(tank,V0), pipe(V0,V1)."]);
+    const nested = "p(f(X,g(a)),c,X,Y).";
+    assert.deepStrictEqual(await found(nested, "p(A,B,_,h(C,B))"), [
+        { A: "f(V0,g(a))", B: "c", C: "V1" },
+        "p(f(V0,g(a)),c,V0,h(V1,c)) follows from the rules, for every V0, V1.",
+    ]);
+    assert.deepStrictEqual(await found("p.", ""), [{}, ""]);
+    const doubling = await answerTo("d(s(N),f(X,X)) :- d(N,X).", `d(${"s(".repeat(12)}o${")".repeat(12)},Y)`);
+    assert.strictEqual(doubling.words, "No room for the next answer: after 10 steps the goal is d(s(s(o)),V0)");
+}
+
 async function circles() {
     const turning = "p(X) :- q(f(X)), s. q(f(X)) :- r(X). r(X) :- p(X).";
     const { numbers, stations } = await answerTo(turning, "p(a)");
@@ -59,7 +80,7 @@ async function others() {
     await assert.rejects(answerTo("p.", "p q"), { message: "line 1: “.” expected before “q”" });
 }
 
-Promise.all([examples(), circles(), others()]).then(
+Promise.all([examples(), answers(), circles(), others()]).then(
     () => console.log("the page's parts: ok"),
     (fault) => {
         console.error(fault.message);
