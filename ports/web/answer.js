@@ -48,7 +48,7 @@ function instanceOf(code, answer, goal) {
     if (answer === "") return "";
     const free = [...new Set(answer.match(/\bV\d+/g))].join(", ");
     const all = free === "" ? "" : `, for every ${cut(free, 60)}`;
-    return code === 20 ? `${cut(answer, 300)} follows from the rules${all}.` : `So far: ${cut(answer, 300)}, if ${goal}.`;
+    return code === 20 ? `From the rules follows${all}: ${cut(answer, 300)}.` : `So far: ${cut(answer, 300)}, if ${goal}.`;
 }
 
 // What each code from 20 on says.

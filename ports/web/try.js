@@ -37,8 +37,8 @@ async function examples() {
 // The answer: each variable that has a name, with its value, and the instance.
 async function answers() {
     const found = async (...texts) => (({ values, instance }) => [Object.fromEntries(values), instance])(await answerTo(...texts));
-    const solved = "supplies(pump_2,c7), feeds(pump_2,valve_3) follows from the rules.";
-    assert.deepStrictEqual(await found(rules, "opens(V,c7)"), [{ V: "valve_3" }, "opens(valve_3,c7) follows from the rules."]);
+    const solved = "From the rules follows: supplies(pump_2,c7), feeds(pump_2,valve_3).";
+    assert.deepStrictEqual(await found(rules, "opens(V,c7)"), [{ V: "valve_3" }, "From the rules follows: opens(valve_3,c7)."]);
     assert.deepStrictEqual(await found(rules, "supplies(P,c7), feeds(P,V)"), [{ P: "pump_2", V: "valve_3" }, solved]);
     assert.deepStrictEqual(await found(rules, "feeds(P,V), opens(V,c8)"), [
         { P: "pump_2", V: "valve_3" },
@@ -48,7 +48,7 @@ async function answers() {
     const nested = "p(f(X,g(a)),c,X,Y).";
     assert.deepStrictEqual(await found(nested, "p(A,B,_,h(C,B))"), [
         { A: "f(V0,g(a))", B: "c", C: "V1" },
-        "p(f(V0,g(a)),c,V0,h(V1,c)) follows from the rules, for every V0, V1.",
+        "From the rules follows, for every V0, V1: p(f(V0,g(a)),c,V0,h(V1,c)).",
     ]);
     assert.deepStrictEqual(await found("p.", ""), [{}, ""]);
     const doubling = await answerTo("d(s(N),f(X,X)) :- d(N,X).", `d(${"s(".repeat(12)}o${")".repeat(12)},Y)`);
