@@ -17,6 +17,12 @@ fn check(counted: Result<usize, Refusal>) -> String {
     }
 }
 
+/// "The single query check now takes the book and checks it first" (document 02, C-18).
+fn query_nodes(case: &Case) -> Result<usize, Refusal> {
+    let clauses = read::book(&case.book)?;
+    read::query(&clauses, &case.query).map(|goal| crate::tree::nodes(&goal))
+}
+
 /// "For C the answer is one 64-bit number". Its top 32 bits have the steps of a run, or the clause number of a pick and of an apply: with code 22 that of
 /// the clause that got furthest, and in the upper 16 of them the argument.
 fn number(a: &Answer, top: u32) -> u64 {
@@ -70,7 +76,7 @@ fn picked(entry: Entry, a: Answer) -> String {
 pub fn line(item: &Item) -> Result<String, String> {
     match item.entry {
         Entry::CheckBook => Ok(check(read::book(&item.case.book).map(|clauses| clauses.len()))),
-        Entry::CheckQuery => Ok(check(read::query(&item.case.query).map(|goal| crate::tree::nodes(&goal)))),
+        Entry::CheckQuery => Ok(check(query_nodes(&item.case))),
         entry @ (Entry::Pick | Entry::PickForC) => Ok(picked(entry, pick(&item.case.book, &item.case.query))),
         entry @ (Entry::Run | Entry::RunForC) => of_run(entry, &item.case),
         entry => Ok(lent(entry, &item.case)),

@@ -74,10 +74,10 @@ fn with_change(dice: &mut Dice, terms: &[Tree], variables: u32) -> Vec<Tree> {
     terms
 }
 
-/// A formula with up to eight of the variables, so that the next goal shows what they are.
+/// A formula with up to eight of the variables, so that the next goal shows what they are; its predicate is one of that arity.
 fn shown(dice: &mut Dice, predicate: u32, variables: u32) -> Formula {
     let arity = variables.min(dice.from(1, 8));
-    formula(predicate, (0..arity).map(|_| variable(dice.below(variables))).collect())
+    formula(predicate * 10 + arity, (0..arity).map(|_| variable(dice.below(variables))).collect())
 }
 
 fn skeletons(dice: &mut Dice, n: u32, most: u32, holes: u32) -> Vec<Tree> {

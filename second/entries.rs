@@ -30,7 +30,8 @@ fn only(code: u8) -> Answer {
 
 fn inputs(book: &[u8], query: &[u8]) -> Result<(Vec<Clause>, Goal), Answer> {
     let clauses = read::book(book).map_err(refused)?;
-    Ok((clauses, read::query(query).map_err(refused)?))
+    let goal = read::query(&clauses, query).map_err(refused)?;
+    Ok((clauses, goal))
 }
 
 fn with_areas(book: &[u8], query: &[u8], areas: &[&[u8]]) -> Result<(Vec<Clause>, Goal), Answer> {

@@ -11,6 +11,7 @@ const TURNING: u32 = 2;
 const UNKNOWN: u32 = 3;
 const BEHIND: u32 = 4;
 const SOLVED: u32 = 5;
+const FILLING: u32 = 6;
 
 /// The clause's variables: what is left of the count; what the query's variable is made of; and those of which the term has some, and the body perhaps none.
 const LESS: u32 = 0;
@@ -92,7 +93,7 @@ fn filled(clauses: &[Clause], mut formulas: Vec<Formula>, step: u32, target: u32
     let (_, _, state) = follow(clauses, goal(&formulas), step);
     let more = target.saturating_sub(nodes(&state.answer) as u32);
     if more > 1 {
-        formulas.push(formula(BEHIND, vec![tower(more - 1)]));
+        formulas.push(formula(FILLING, vec![tower(more - 1)]));
     }
     formulas
 }

@@ -68,7 +68,7 @@ impl Entry {
     }
 }
 
-/// A check of a book has no use for the query, nor for number and areas; a pick has none for number and areas; the others likewise.
+/// A check of a book has no use for the query, nor for number and areas; that of a query and a pick have none for number and areas; the others likewise.
 pub struct Item {
     pub entry: Entry,
     pub case: Case,
@@ -94,7 +94,6 @@ impl Item {
         let Case { book, query, number, area, answer } = &self.case;
         let rest = match self.entry {
             Entry::CheckBook => book.clone(),
-            Entry::CheckQuery => query.clone(),
             _ => [&number.to_be_bytes()[..], &area.written(), &answer.written(), &four(book.len()), book, query].concat(),
         };
         [&[self.entry as u8][..], &four(rest.len()), &rest].concat()
@@ -109,7 +108,6 @@ impl Item {
         let mut case = Case { book: Vec::new(), query: Vec::new(), number: 0, area: none, answer: none };
         match entry {
             Entry::CheckBook => case.book = rest.to_vec(),
-            Entry::CheckQuery => case.query = rest.to_vec(),
             _ => {
                 let book = number(rest.get(16..20)?);
                 case.number = number(&rest[..4]) as u32;

@@ -11,6 +11,7 @@
 //   second pack N              reads a book and a query in document 01's notation, and writes them with budget N as `trace` reads them
 //   second say N               reads the same, and prints what `trace` prints, the answer in the notation, and behind `if` the goal that is left
 mod answers;
+mod arities;
 mod build;
 mod chains;
 mod circles;

@@ -35,9 +35,9 @@ fn period(clauses: &[Clause], formula: &Formula, limit: u32) -> Result<u32, Stri
 
 /// The span is the shortest period of the leftmost formula at the closing state, and of the one at the last save.
 pub fn shortest(case: &Case, a: &Answer) -> Result<(), String> {
-    let (Ok(clauses), Ok(query)) = (read::book(&case.book), read::query(&case.query)) else {
-        return Err("a loop that is refused".to_string());
-    };
+    let refused = |_| "a loop that is refused".to_string();
+    let clauses = read::book(&case.book).map_err(refused)?;
+    let query = read::query(&clauses, &case.query).map_err(refused)?;
     let saved = walked(&clauses, query, a.steps - a.span)?;
     let closing = walked(&clauses, saved.clone(), a.span)?;
     for goal in [saved, closing] {

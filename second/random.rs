@@ -4,7 +4,7 @@ use crate::pen;
 
 /// What random clauses are made of: how many predicates, with which arities; how many constants and compound symbols, with which arities;
 /// of sixteen terms how many are variables, and how many are not compound; how many compound terms a formula has at most, how long a body
-/// is, and of eight clauses how many are facts.
+/// is, and of eight clauses how many are facts; whether some formulas have another arity than their predicate's.
 pub struct Shape {
     predicates: u32,
     arity: u32,
@@ -16,6 +16,7 @@ pub struct Shape {
     room: u32,
     bodies: u32,
     facts: u32,
+    odd: bool,
 }
 
 fn mixed(dice: &mut Dice) -> Shape {
@@ -31,6 +32,7 @@ fn mixed(dice: &mut Dice) -> Shape {
         room: dice.below(4),
         bodies: dice.from(1, 3),
         facts: dice.below(5),
+        odd: dice.once_in(10),
     }
 }
 
@@ -53,6 +55,7 @@ fn knotty(dice: &mut Dice) -> Shape {
         room: dice.from(2, 10),
         bodies: dice.from(1, 2),
         facts: 2,
+        odd: dice.once_in(10),
     }
 }
 
@@ -111,7 +114,7 @@ impl Pen<'_> {
     }
 
     fn formula(&mut self, predicate: u32) {
-        let odd = self.dice.once_in(64);
+        let odd = self.shape.odd && self.dice.once_in(16);
         let arity = if odd { self.dice.below(4) } else { self.shape.arity_of(predicate) };
         self.room = self.shape.room;
         pen::symbol(self.out, 4, predicate, arity);

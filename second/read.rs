@@ -1,5 +1,6 @@
 // The bytes: what a good book and a good query are, and which code and place another one has.
 use crate::tree::{Clause, Formula, Goal, Term, Tree};
+use std::collections::HashMap;
 use std::rc::Rc;
 
 pub struct Refusal {
@@ -17,12 +18,16 @@ struct Limits {
 const IN_CLAUSE: Limits = Limits { add: 0, nodes: 256, variables: 64 };
 const IN_QUERY: Limits = Limits { add: 10, nodes: 4096, variables: u32::MAX };
 
+/// The arity that each predicate number was met with.
+type Arities = HashMap<u16, usize>;
+
 struct Reader<'a> {
     bytes: &'a [u8],
     at: usize,
     limits: Limits,
     nodes: u32,
     next: u32,
+    arities: Arities,
 }
 
 impl Reader<'_> {
@@ -59,8 +64,14 @@ impl Reader<'_> {
             return self.bad(4, place);
         }
         self.another_node(place)?;
+        self.one_arity(place, two(&body), body[2] as usize)?;
         let arguments = self.terms(body[2])?;
         Ok(Formula { predicate: two(&body), arguments })
+    }
+
+    /// "Refusals: 7 for the book and 17 for the query, at the second formula's record, the last check within a record" (document 02, C-18).
+    fn one_arity(&mut self, place: usize, predicate: u16, arity: usize) -> Result<(), Refusal> {
+        if *self.arities.entry(predicate).or_insert(arity) != arity { self.bad(7, place) } else { Ok(()) }
     }
 
     fn terms(&mut self, how_many: u8) -> Result<Vec<Tree>, Refusal> {
@@ -105,7 +116,7 @@ pub fn book(bytes: &[u8]) -> Result<Vec<Clause>, Refusal> {
     if bytes.len() > 32768 {
         return Err(Refusal { code: 5, place: 32768 });
     }
-    let mut reader = Reader { bytes, at: 0, limits: IN_CLAUSE, nodes: 0, next: 0 };
+    let mut reader = Reader { bytes, at: 0, limits: IN_CLAUSE, nodes: 0, next: 0, arities: Arities::new() };
     let mut clauses = Vec::new();
     loop {
         let (place, kind, body) = reader.record(&[5, 7])?;
@@ -127,11 +138,18 @@ pub fn book(bytes: &[u8]) -> Result<Vec<Clause>, Refusal> {
     }
 }
 
-pub fn query(bytes: &[u8]) -> Result<Goal, Refusal> {
+/// "In heads or bodies".
+fn used(clauses: &[Clause]) -> Arities {
+    let formulas = clauses.iter().flat_map(|clause| [&clause.head].into_iter().chain(&clause.body));
+    formulas.map(|f| (f.predicate, f.arguments.len())).collect()
+}
+
+/// A query against the clauses of its book, which is good.
+pub fn query(clauses: &[Clause], bytes: &[u8]) -> Result<Goal, Refusal> {
     if bytes.len() > 16387 {
         return Err(Refusal { code: 15, place: 16387 });
     }
-    let mut reader = Reader { bytes, at: 0, limits: IN_QUERY, nodes: 0, next: 0 };
+    let mut reader = Reader { bytes, at: 0, limits: IN_QUERY, nodes: 0, next: 0, arities: used(clauses) };
     let (place, _, body) = reader.record(&[6])?;
     if two(&body) > 512 {
         return reader.bad(4, place);

@@ -1,4 +1,5 @@
 // Streams of items: the documents' cases, the lists, inputs cut and changed at every byte, and then inputs at random.
+use crate::arities;
 use crate::chains;
 use crate::circles;
 use crate::deep;
@@ -94,6 +95,9 @@ fn random_case(lines: &[Line], dice: &mut Dice) -> Case {
     };
     if dice.once_in(12) {
         case = unknown::made(case, dice);
+    }
+    if dice.once_in(16) {
+        case = arities::made(case, dice);
     }
     if dice.once_in(20) {
         case.area = other_length(case.area, dice);

@@ -1,5 +1,5 @@
 // Formulas that no head fits: heads that agree with them up to some argument, and then clash, by themselves or by a variable that stands at two places, or
-// fail by the occur check; among clauses of other arities and predicates; at once, or after some steps.
+// fail by the occur check; among clauses of other predicates; at once, or after some steps.
 use crate::build::{case, clause, compound, constant, formula, goal, tower, variable};
 use crate::dice::Dice;
 use crate::item::Case;
@@ -8,6 +8,7 @@ use crate::tree::{Clause, Formula, Term, Tree};
 
 const FORMULA: u32 = 1;
 const OTHER: u32 = 2;
+const SHORTER: u32 = 4;
 const COUNTING: u32 = 3;
 
 /// An argument of the formula: a constant of its own, or something of one of three variables.
@@ -47,15 +48,14 @@ fn heads(dice: &mut Dice, leftmost: &Formula) -> Vec<Formula> {
     (0..dice.from(1, 8)).map(|_| formula(FORMULA, head(dice))).collect()
 }
 
-/// Of another arity, or of another predicate: these take no part.
+/// Of another predicate, with as many arguments or one less: these take no part.
 fn apart(dice: &mut Dice, head: &Formula) -> Formula {
     let mut arguments = head.arguments.clone();
-    match dice.below(4) {
-        0 | 1 => return formula(OTHER, arguments),
-        2 if arguments.len() < 8 => arguments.push(constant(9)),
-        _ => drop(arguments.pop()),
+    if dice.once_in(2) {
+        return formula(OTHER, arguments);
     }
-    formula(FORMULA, arguments)
+    arguments.pop();
+    formula(SHORTER, arguments)
 }
 
 fn clauses(dice: &mut Dice, leftmost: &Formula) -> Vec<Clause> {
@@ -88,7 +88,7 @@ pub fn random(dice: &mut Dice) -> Case {
     let arity = dice.from(1, 8);
     let leftmost = formula(FORMULA, (0..arity).map(|place| argument(dice, place)).collect());
     let mut all = clauses(dice, &leftmost);
-    let mut formulas = vec![leftmost.clone(), formula(OTHER, vec![variable(0), variable(1)])];
+    let mut formulas = vec![leftmost.clone(), formula(OTHER, (0..arity).map(|place| variable(place % 2)).collect())];
     if dice.once_in(2) {
         counting(dice, &mut all, &leftmost);
         formulas[0] = formula(COUNTING, vec![tower(dice.from(1, 40))]);

@@ -1,4 +1,5 @@
-// Books that know a predicate no more: its clauses are taken out, so that only bodies use it, or their heads get an argument more.
+// Books that know a predicate no more: its clauses are taken out, so that only bodies use it; or their heads get an argument more, which is refused
+// where a body or the query has it too.
 use crate::build::constant;
 use crate::dice::Dice;
 use crate::image;

@@ -55,13 +55,13 @@ arguments (row-sym r) = rw add-zero at r
 formula-tabled : {f : Expr} → IsFormula f → Tabled f
 formula-tabled (formula {p = p} {a = a} w q t) = tabled w q (arguments {s = predicate p a} (formula-row (formula w q t))) (terms-only t)
 
-formulas-tabled : (g : Goal) → AreFormulas g → AllTabled g
+pub formulas-tabled : (g : Goal) → AreFormulas g → AllTabled g
 formulas-tabled [] p = tt
 formulas-tabled (f ∷ g) p = (formula-tabled (p .0), formulas-tabled g (p .1))
 
 -- Renamed, substituted, numbered: still in the ranges.
 
-tabled-rename : (ρ : ℕ → ℕ) (f : Expr) → Tabled f → Tabled (rename ρ f)
+pub tabled-rename : (ρ : ℕ → ℕ) (f : Expr) → Tabled f → Tabled (rename ρ f)
 tabled-rename ρ f (tabled {e = e} w q r o) = tabled w q (rename-row ρ r) (symbols-rename TermSymbol ρ e o)
 
 tabled-apply : (σ : Subst) → Proper σ → ((v : ℕ) → Symbols TermSymbol (σ v)) → (f : Expr) → Tabled f → Tabled (apply σ f)
@@ -70,12 +70,12 @@ tabled-apply σ proper all f (tabled {e = e} w q r o) = tabled w q (apply-row σ
 tabled-row : {f : Expr} → Tabled f → Row 1 f
 tabled-row (tabled {p = p} {a = a} {e = e} w q r o) = row-sym {n = 0} {s = predicate p a} {e = e} (rw add-zero r)
 
-tabled-formulas : (g : Goal) → AllTabled g → Formulas g
+pub tabled-formulas : (g : Goal) → AllTabled g → Formulas g
 tabled-formulas [] p = tt
 tabled-formulas (f ∷ g) p = (tabled-row (p .0), tabled-formulas g (p .1))
 
 -- a most general unifier of two such formulas puts terms with such symbols for variables
-unifier-tabled : {f d : Expr} → Tabled f → Tabled d → (σ : Subst) → MostGeneral σ f d → (v : ℕ) → Symbols TermSymbol (σ v)
+pub unifier-tabled : {f d : Expr} → Tabled f → Tabled d → (σ : Subst) → MostGeneral σ f d → (v : ℕ) → Symbols TermSymbol (σ v)
 unifier-tabled (tabled {p = p} {a = n} {e = a} w q r o) (tabled {p = p′} {a = n′} {e = b} w′ q′ r′ o′) σ m =
     general-symbols TermSymbol (predicate p n) (predicate p′ n′) a b (tabled-row (tabled w q r o)) (tabled-row (tabled w′ q′ r′ o′)) o o′ σ m
 
@@ -84,11 +84,11 @@ resolved-tabled f g c h first rest clause t =
     let terms = unifier-tabled (tabled-rename (t .goal-names) f first) (tabled-rename (t .clause-names) (c .head) (clause .0)) (t .unifier) (t .general) in
     resolved-every Tabled tabled-rename f g c h (clause .1) rest t (tabled-apply (t .unifier) (t .general .unifies .0) terms)
 
-first-tabled : (P : Book) (f : Expr) (k : ℕ) (c : Clause) → GoodClauses P → First f P k c → AllTabled (c .head ∷ c .body)
+pub first-tabled : (P : Book) (f : Expr) (k : ℕ) (c : Clause) → GoodClauses P → First f P k c → AllTabled (c .head ∷ c .body)
 first-tabled (d ∷ P) f zero c good p = subst (λ e. AllTabled (e .head ∷ e .body)) (p .0) (formulas-tabled (d .head ∷ d .body) (good .0 .formulas))
 first-tabled (d ∷ P) f (suc k) c good p = first-tabled P f k c (good .1) (p .1)
 
-next-tabled : (P : Book) → GoodClauses P → (g : Goal) → AllTabled g → (k : ℕ) (h : Goal) → Next P g k h → AllTabled h
+pub next-tabled : (P : Book) → GoodClauses P → (g : Goal) → AllTabled g → (k : ℕ) (h : Goal) → Next P g k h → AllTabled h
 next-tabled P good (f ∷ g) p k h n = resolved-tabled f g (n .0) h (p .0) (p .1) (first-tabled P f k (n .0) good (n .1)) (n .2)
 
 -- From the ranges to formulas: a variable is at most as high as there are nodes.
@@ -156,7 +156,7 @@ book-atomic P good = clauses-atomic P (good .clauses)
 
 -- The theorems, of a good book and a good query.
 module _ (P : Book) (good-book : GoodBook P) (q : Goal) (good-query : GoodGoal q) where
-  path-tabled : (t : ℕ) (g : Goal) → goal-at P q t ≡ some g → AllTabled g
+  pub path-tabled : (t : ℕ) (g : Goal) → goal-at P q t ≡ some g → AllTabled g
   path-tabled =
       path-holds AllTabled P
       (λ g h p e. let s = step-goal (next P g) h e in next-tabled P (good-book .clauses) g p (s .0) h (next-iff P (book-clauses P good-book) g (tabled-formulas g p) (s .0) h .1 (s .1)))

@@ -14,12 +14,12 @@ use Rattle.terms.specs.UnifyLaws.{unify-sound, unify-complete}
 use Rattle.terms.specs.FoundLaws.{heads-found}
 
 module _ (Q : Symbol → Type 0) where
-  symbols-append : (a b : Expr) → Symbols Q a → Symbols Q b → Symbols Q (a ++ b)
+  pub symbols-append : (a b : Expr) → Symbols Q a → Symbols Q b → Symbols Q (a ++ b)
   symbols-append [] b p q = q
   symbols-append (var v ∷ a) b p q = symbols-append a b p q
   symbols-append (sym s ∷ a) b p q = (p .0, symbols-append a b (p .1) q)
 
-  symbols-behind : (a b : Expr) → Symbols Q (a ++ b) → Symbols Q b
+  pub symbols-behind : (a b : Expr) → Symbols Q (a ++ b) → Symbols Q b
   symbols-behind [] b p = p
   symbols-behind (var v ∷ a) b p = symbols-behind a b p
   symbols-behind (sym s ∷ a) b p = symbols-behind a b (p .1)

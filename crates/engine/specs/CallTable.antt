@@ -10,7 +10,8 @@ use Rattle.search.specs.Room.{fits}
 use Rattle.search.specs.Known.{alike?, known?, stuck-code}
 use Rattle.search.specs.Furthest.{no-figures, furthest, figures}
 use Rattle.search.specs.Pick.{pick, apply-by}
-use Rattle.records.specs.Reading.{allowed, bodyLength, numberAt, recordAt, inRange, inSize, inOrder, nextUnused, after, judgeRecord, judge, whole, finish, walk, verdict, bookVerdict, queryVerdict}
+use Rattle.records.specs.Reading.{allowed, bodyLength, numberAt, recordAt, inRange, inSize, inOrder, nextUnused, after, judgeRecord, judge, whole, finish, walk, metFrom, verdict, bookVerdict, queryVerdict}
+use Rattle.records.specs.Arities.{meet, keeps}
 use Rattle.records.specs.Decode.{bookOf, goalOf}
 use Rattle.engine.specs.declared.Picked.{Picked}
 use Rattle.engine.specs.declared.Stepped.{Stepped}
@@ -44,11 +45,11 @@ abbrev PickHolds : PickRow → Type 0
 PickHolds l = pickAnswer (l .book) (l .query) ≡ l .result
 
 -- a line from what is computed of it: the two checks, the answer
-holds-picked : (l : PickRow) → bookVerdict (l .book) .code ≡ 0 → queryVerdict (l .query) .code ≡ 0 → pickSaid (bookOf (l .book)) (goalOf (l .query)) (pick (bookOf (l .book)) (goalOf (l .query))) ≡ l .result → PickHolds l
+holds-picked : (l : PickRow) → bookVerdict (l .book) .code ≡ 0 → queryVerdict (l .book) (l .query) .code ≡ 0 → pickSaid (bookOf (l .book)) (goalOf (l .query)) (pick (bookOf (l .book)) (goalOf (l .query))) ≡ l .result → PickHolds l
 holds-picked l bz qz answer-is = pick-taken (l .book) (l .query) (ap (λ (a : Admitted). a .code) (query-decides (l .book) (l .query) 16387 (omega arith) bz) ∙ qz) ∙ answer-is
 
 pub pick-table-holds : All PickHolds pick-table
-unfolding allowed bodyLength numberAt recordAt inRange inSize inOrder nextUnused after judgeRecord judge whole finish walk verdict bookOf goalOf fits stuck-code known? alike? figures furthest
+unfolding allowed bodyLength numberAt recordAt inRange inSize inOrder meet keeps nextUnused after judgeRecord judge whole finish walk metFrom verdict queryVerdict bookOf goalOf fits stuck-code known? alike? figures furthest
 pick-table-holds = (holds-picked _ refl refl refl, (holds-picked _ refl refl refl, (holds-picked _ refl refl refl, (holds-picked _ refl refl refl, (holds-picked _ refl refl refl, tt)))))
 
 -- The apply call.
@@ -79,10 +80,10 @@ abbrev ApplyHolds : ApplyRow → Type 0
 ApplyHolds l = Holds (λ query area. applyAnswer (l .book) query (l .clause) area) (λ query area. applyArea (l .book) query (l .clause) area) (some (l .query)) (l .result) (l .left)
 
 -- a line from what is computed of it: the two checks, the answer, the image
-holds-applied : (l : ApplyRow) → bookVerdict (l .book) .code ≡ 0 → queryVerdict (l .query) .code ≡ 0 → stepped no-figures (apply-by (bookOf (l .book)) (goalOf (l .query)) (l .clause)) ≡ l .result
+holds-applied : (l : ApplyRow) → bookVerdict (l .book) .code ≡ 0 → queryVerdict (l .book) (l .query) .code ≡ 0 → stepped no-figures (apply-by (bookOf (l .book)) (goalOf (l .query)) (l .clause)) ≡ l .result
     → image-of (apply-by (bookOf (l .book)) (goalOf (l .query)) (l .clause) .written) ≡ l .left → ApplyHolds l
 holds-applied l bz qz answer-is image-is query e area long =
-    let z : refusal (l .book) query (length area) .code ≡ 0 = ap (λ (a : Admitted). a .code) (query-decides (l .book) query (length area) long bz) ∙ ap (λ s. queryVerdict s .code) e ∙ qz in (
+    let z : refusal (l .book) query (length area) .code ≡ 0 = ap (λ (a : Admitted). a .code) (query-decides (l .book) query (length area) long bz) ∙ ap (λ s. queryVerdict (l .book) s .code) e ∙ qz in (
       single-taken (l .book) query area z (stepped no-figures (apply-by (bookOf (l .book)) (goalOf query) (l .clause))) ∙ ap (λ s. stepped no-figures (apply-by (bookOf (l .book)) (goalOf s) (l .clause))) e ∙ answer-is,
       single-written (l .book) query area z (apply-by (bookOf (l .book)) (goalOf query) (l .clause))
           ∙ ap (λ s. Outcome.leaves (apply-by (bookOf (l .book)) (goalOf s) (l .clause) .written) area) e
@@ -91,5 +92,5 @@ holds-applied l bz qz answer-is image-is query e area long =
     )
 
 pub apply-table-holds : All ApplyHolds apply-table
-unfolding allowed bodyLength numberAt recordAt inRange inSize inOrder nextUnused after judgeRecord judge whole finish walk verdict bookOf goalOf fits stuck-code known? alike?
+unfolding allowed bodyLength numberAt recordAt inRange inSize inOrder meet keeps nextUnused after judgeRecord judge whole finish walk metFrom verdict queryVerdict bookOf goalOf fits stuck-code known? alike?
 apply-table-holds = (holds-applied _ refl refl refl refl, (holds-applied _ refl refl refl refl, (holds-applied _ refl refl refl refl, (holds-applied _ refl refl refl refl, (holds-applied _ refl refl refl refl, tt)))))

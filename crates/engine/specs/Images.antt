@@ -1,5 +1,5 @@
--- What is taken, and what is answered then, from both ends: bytes that are not refused are the images of a good book and a good goal; and on the images of a good book
--- and a good goal, in an area that is long enough, each entry answers what its definition says of them. Nothing is said of refusals there.
+-- What is taken, and what is answered then, from both ends: bytes that are not refused are the images of a good book and a good goal that suits it; and on the images of
+-- such a book and a goal, in an area that is long enough, each entry answers what its definition says of them. Nothing is said of refusals there.
 use Prim.Native.Nat.{ℕ, _≤_}
 use native.Mathlib.Omega.{arith}
 use mathlib.Core.Path.{_≡_, ap, ap₂, _∙_, subst}
@@ -16,8 +16,9 @@ use Rattle.search.specs.Pick.{pick, apply-by}
 use Rattle.records.specs.declared.Check.{Check}
 use Rattle.records.specs.Format.{GoodBook, GoodGoal, encodeBook, encodeGoal, Bytes}
 use Rattle.records.specs.Decode.{bookOf, goalOf}
-use Rattle.records.proofs.Meaning.{book-written, query-written}
-use Rattle.records.proofs.Decoding.{bookOf-good, goalOf-good, bookOf-image, goalOf-image}
+use Rattle.records.specs.Arities.{Suits}
+use Rattle.records.proofs.Meaning.{query-book, query-written}
+use Rattle.records.proofs.Decoding.{bookOf-good, goalOf-good, goalOf-suits, bookOf-image, goalOf-image}
 use Rattle.records.proofs.Premises.{book-clauses, goal-premises}
 use Rattle.engine.specs.declared.admit.Admitted.{Admitted}
 use Rattle.engine.specs.Outcome.{refusal, over, room, ended, runAnswer, runArea, runAnswerArea, stepped, stepSaid, leaves, stepAnswer, stepArea, pickSaid, pickAnswer, applyAnswer, applyArea}
@@ -35,28 +36,30 @@ pub record Images (book query : List ℕ) : Type 0 where
   pub good-book : GoodBook (bookOf book)
   pub book-image : encodeBook (bookOf book) ≡ book
   pub good-goal : GoodGoal (goalOf query)
+  pub suits : Suits (bookOf book) (goalOf query)
   pub query-image : encodeGoal (goalOf query) ≡ query
 
 pub images : (book query : List ℕ) → Bytes book → Bytes query → (room : ℕ) → refusal book query room .code ≡ 0 → Images book query
 images book query book-bytes query-bytes room z =
     let g = not-refused book query room z in
     let b = bookOf-good book book-bytes (g .book-good) in
-    let q = goalOf-good query query-bytes (g .query-good) in
-    record { good-book = b .0; book-image = b .1; good-goal = q .0; query-image = q .1 }
+    let q = goalOf-good book query query-bytes (g .query-good) in
+    record { good-book = b .0; book-image = b .1; good-goal = q .0; suits = goalOf-suits book query book-bytes query-bytes (g .query-good); query-image = q .1 }
 
-module _ (P : Book) (good-book : GoodBook P) (q : Goal) (good-goal : GoodGoal q) where
+module _ (P : Book) (good-book : GoodBook P) (q : Goal) (good-goal : GoodGoal q) (suits : Suits P q) where
   room-enough : (room : ℕ) → 16387 ≤ room → refusal (encodeBook P) (encodeGoal q) room .code ≡ 0
   room-enough room long =
       taken-iff (encodeBook P) (encodeGoal q) room .1
-      (record { enough = long; book-good = ap (λ (c : Check). c .code) (book-written P good-book); query-good = ap (λ (c : Check). c .code) (query-written q good-goal) })
+      (let good = ap (λ (c : Check). c .code) (query-written P good-book q good-goal suits) in
+      record { enough = long; book-good = query-book (encodeBook P) (encodeGoal q) good; query-good = good; askable = record { book = encodeBook P; good = good } })
 
   pub pick-of-good : pickAnswer (encodeBook P) (encodeGoal q) ≡ pickSaid P q (pick P q)
   pick-of-good =
       pick-taken (encodeBook P) (encodeGoal q) (room-enough 16387 (omega arith)) ∙ ap₂ (λ b g. pickSaid b g (pick b g)) (bookOf-image P good-book) (goalOf-image q good-goal)
 
-module _ (P : Book) (good-book : GoodBook P) (q : Goal) (good-goal : GoodGoal q) (area : List ℕ) (long : 16387 ≤ length area) where
+module _ (P : Book) (good-book : GoodBook P) (q : Goal) (good-goal : GoodGoal q) (suits : Suits P q) (area : List ℕ) (long : 16387 ≤ length area) where
   pub nothing-refused : refusal (encodeBook P) (encodeGoal q) (length area) .code ≡ 0
-  nothing-refused = room-enough P good-book q good-goal (length area) long
+  nothing-refused = room-enough P good-book q good-goal suits (length area) long
 
   pub step-of-good : (stepAnswer (encodeBook P) (encodeGoal q) area ≡ stepSaid P q (step P q)) × (stepArea (encodeBook P) (encodeGoal q) area ≡ leaves (step P q .written) area)
   step-of-good =
@@ -72,13 +75,13 @@ module _ (P : Book) (good-book : GoodBook P) (q : Goal) (good-goal : GoodGoal q)
       )
 
 -- the run, which is lent an answer area too
-module _ (P : Book) (good-book : GoodBook P) (q : Goal) (good-goal : GoodGoal q) (area space : List ℕ) (long : 16387 ≤ room area space) (budget : ℕ) where
+module _ (P : Book) (good-book : GoodBook P) (q : Goal) (good-goal : GoodGoal q) (suits : Suits P q) (area space : List ℕ) (long : 16387 ≤ room area space) (budget : ℕ) where
   abbrev Leaves : Answered → Type 0
   Leaves c = Running.Leaves P c area space (runAnswer (encodeBook P) (encodeGoal q) budget area space) (runArea (encodeBook P) (encodeGoal q) budget area space) (runAnswerArea (encodeBook P) (encodeGoal q) budget area space)
 
   pub run-of-good : Leaves (answered P budget q)
   run-of-good =
-      let z = room-enough P good-book q good-goal (room area space) long in
+      let z = room-enough P good-book q good-goal suits (room area space) long in
       let same : answered (bookOf (encodeBook P)) budget (goalOf (encodeGoal q)) ≡ answered P budget q = ap₂ (λ b g. answered b budget g) (bookOf-image P good-book) (goalOf-image q good-goal) in
       record {
         answer = Running.answer-taken (encodeBook P) (encodeGoal q) budget area space z ∙ ap₂ (λ b g. ended b (answered b budget g)) (bookOf-image P good-book) (goalOf-image q good-goal);

@@ -4,14 +4,16 @@ use Prim.Native.Nat.{ℕ, _≤_, _<_}
 use native.Mathlib.Omega.{arith}
 use native.Mathlib.Decide.{decLt, ℕ-discrete}
 use mathlib.Core.Path.{_≡_, refl, sym as inv, ap, _∙_, subst}
-use mathlib.Core.List.{List}
+use mathlib.Core.List.{List, []}
 use lib.ListN.{length}
 use Rattle.records.specs.declared.state.Form.the-variants.{Book, Query}
 use Rattle.records.specs.Reading.{bookVerdict, queryVerdict}
 use Rattle.records.specs.Format.{Bytes}
 use Rattle.records.specs.Faulty.{Faulty, Good}
-use Rattle.records.proofs.Meaning.{book-good}
-use Rattle.records.proofs.Refusals.{refused-iff}
+use Rattle.records.specs.Arities.{bookUses}
+use Rattle.records.specs.Decode.{bookOf}
+use Rattle.records.proofs.Meaning.{one-none, book-good}
+use Rattle.records.proofs.Refusals.{refused-iff, query-refused-iff}
 use Rattle.engine.specs.declared.Answer.{Answer}
 use Rattle.engine.specs.declared.Stepped.{Stepped}
 use Rattle.engine.specs.declared.admit.Admitted.{Admitted}
@@ -25,8 +27,9 @@ use Rattle.engine.specs.Running as Running
 pub data RefusalSays (book query : List ℕ) (lent : ℕ) : ℕ → ℕ → Type 0 where
   -- "Goal area: at least 16,387 bytes."
   short : lent < 16387 → RefusalSays book query lent 1 0
-  bad-book : {code place : ℕ} → 16387 ≤ lent → Faulty Book book code place → RefusalSays book query lent code place
-  bad-query : {code place : ℕ} → 16387 ≤ lent → Good Book book → Faulty Query query code place → RefusalSays book query lent code place
+  bad-book : {code place : ℕ} → 16387 ≤ lent → Faulty Book [] book code place → RefusalSays book query lent code place
+  -- a query is held to the arities that its book uses
+  bad-query : {code place : ℕ} → 16387 ≤ lent → Good Book [] book → Faulty Query (bookUses (bookOf book)) query code place → RefusalSays book query lent code place
 
 module _ (book query : List ℕ) (book-bytes : Bytes book) (query-bytes : Bytes query) where
   -- what refuses is said
@@ -39,8 +42,8 @@ module _ (book query : List ℕ) (book-bytes : Bytes book) (query-bytes : Bytes 
           | yes z ↦
               let e = query-decides book query lent long z in
               subst (λ (r : Admitted). RefusalSays book query lent (r .code) (r .place)) (inv e)
-              (bad-query long (book-good book book-bytes .0 z) (refused-iff Query query query-bytes (queryVerdict query .code) (queryVerdict query .place) .0 (λ w. n (ap (λ (r : Admitted). r .code) e ∙ w), refl, refl)))
-          | no m ↦ rw (book-decides book query lent long m) (bad-book long (refused-iff Book book book-bytes (bookVerdict book .code) (bookVerdict book .place) .0 (m, refl, refl)))
+              (bad-query long (book-good book book-bytes .0 z) (query-refused-iff book query book-bytes z query-bytes (queryVerdict book query .code) (queryVerdict book query .place) .0 (λ w. n (ap (λ (r : Admitted). r .code) e ∙ w), refl, refl)))
+          | no m ↦ rw (book-decides book query lent long m) (bad-book long (refused-iff Book [] one-none book book-bytes (bookVerdict book .code) (bookVerdict book .place) .0 (m, refl, refl)))
         ]
   ]
 
@@ -48,11 +51,12 @@ module _ (book query : List ℕ) (book-bytes : Bytes book) (query-bytes : Bytes 
   refuses : (lent : ℕ) {code place : ℕ} → RefusalSays book query lent code place → (code ≡ 0 → ⊥) × (refusal book query lent ≡ record { code = code; place = place })
   refuses lent (short s) = ((λ z. omega arith), area-short book query lent s)
   refuses lent (bad-book {code} {place} long f) =
-      let a = refused-iff Book book book-bytes code place .1 f in
+      let a = refused-iff Book [] one-none book book-bytes code place .1 f in
       (a .0, book-decides book query lent long (λ z. a .0 (inv (a .1) ∙ z)) ∙ (λ i. record { code = a .1 i; place = a .2 i }))
   refuses lent (bad-query {code} {place} long g f) =
-      let a = refused-iff Query query query-bytes code place .1 f in
-      (a .0, query-decides book query lent long (book-good book book-bytes .1 g) ∙ (λ i. record { code = a .1 i; place = a .2 i }))
+      let z = book-good book book-bytes .1 g in
+      let a = query-refused-iff book query book-bytes z query-bytes code place .1 f in
+      (a .0, query-decides book query lent long z ∙ (λ i. record { code = a .1 i; place = a .2 i }))
 
   not-taken : {lent code place : ℕ} → RefusalSays book query lent code place → refusal book query lent .code ≡ 0 → ⊥
   not-taken {lent} s z = let r = refuses lent s in r .0 (inv (ap (λ (r : Admitted). r .code) (r .1)) ∙ z)

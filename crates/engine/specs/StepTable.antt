@@ -10,7 +10,8 @@ use Rattle.search.specs.Room.{fits}
 use Rattle.search.specs.Known.{alike?, known?, stuck-code}
 use Rattle.search.specs.Furthest.{furthest, figures}
 use Rattle.search.specs.Single.{step}
-use Rattle.records.specs.Reading.{allowed, bodyLength, numberAt, recordAt, inRange, inSize, inOrder, nextUnused, after, judgeRecord, judge, whole, finish, walk, verdict, bookVerdict, queryVerdict}
+use Rattle.records.specs.Reading.{allowed, bodyLength, numberAt, recordAt, inRange, inSize, inOrder, nextUnused, after, judgeRecord, judge, whole, finish, walk, metFrom, verdict, bookVerdict, queryVerdict}
+use Rattle.records.specs.Arities.{meet, keeps}
 use Rattle.records.specs.Cases.{Case, cases}
 use Rattle.records.specs.Format.{encodeGoal}
 use Rattle.records.specs.Decode.{bookOf, goalOf}
@@ -64,9 +65,9 @@ leaves-image none area = refl
 leaves-image (some g) area = refl
 
 -- a line from what is computed of it: the two checks, the answer, the image
-holds-taken : (b q : Image) (r : Stepped) (g : Option Image) → bookVerdict b .code ≡ 0 → queryVerdict q .code ≡ 0 → stepSaid (bookOf b) (goalOf q) (step (bookOf b) (goalOf q)) ≡ r → image-of (step (bookOf b) (goalOf q) .written) ≡ g → RowHolds (taken b q r g)
+holds-taken : (b q : Image) (r : Stepped) (g : Option Image) → bookVerdict b .code ≡ 0 → queryVerdict b q .code ≡ 0 → stepSaid (bookOf b) (goalOf q) (step (bookOf b) (goalOf q)) ≡ r → image-of (step (bookOf b) (goalOf q) .written) ≡ g → RowHolds (taken b q r g)
 holds-taken b q r g bz qz answer-is image-is query e area long =
-    let z : refusal b query (length area) .code ≡ 0 = ap (λ (a : Admitted). a .code) (query-decides b query (length area) long bz) ∙ ap (λ s. queryVerdict s .code) e ∙ qz in (
+    let z : refusal b query (length area) .code ≡ 0 = ap (λ (a : Admitted). a .code) (query-decides b query (length area) long bz) ∙ ap (λ s. queryVerdict b s .code) e ∙ qz in (
       answer-taken b query area z ∙ ap (λ s. stepSaid (bookOf b) (goalOf s) (step (bookOf b) (goalOf s))) e ∙ answer-is,
       area-taken b query area z ∙ ap (λ s. Outcome.leaves (step (bookOf b) (goalOf s) .written) area) e ∙ leaves-image (step (bookOf b) (goalOf q) .written) area ∙ ap (λ i. leaves i area) image-is,
     )
@@ -80,7 +81,7 @@ holds-refused c f query u area long =
 
 -- The table holds, all of its lines.
 pub step-table-holds : All RowHolds table
-unfolding allowed bodyLength numberAt recordAt inRange inSize inOrder nextUnused after judgeRecord judge whole finish walk verdict bookOf goalOf fits stuck-code known? alike? figures furthest
+unfolding allowed bodyLength numberAt recordAt inRange inSize inOrder meet keeps nextUnused after judgeRecord judge whole finish walk metFrom verdict queryVerdict bookOf goalOf fits stuck-code known? alike? figures furthest
 step-table-holds = (
   holds-taken _ _ _ _ refl refl refl refl,
   (

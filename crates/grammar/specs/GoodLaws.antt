@@ -13,6 +13,7 @@ use Rattle.words.specs.PackLaws.{words-length}
 use Rattle.records.specs.Words.{bookWords}
 use Rattle.records.specs.Reading.{bookVerdict}
 use Rattle.records.specs.Format as Format
+use Rattle.records.specs.Arities.{bookUses, OneArity}
 use Rattle.records.specs.Format.{terms-none, terms-var, terms-constant, terms-compound, formula, IsFormula, AreFormulas, Fitting, GoodClause, GoodClauses, GoodBook, GoodGoal, encodeBook}
 use Rattle.records.proofs.Lengths.{words-few}
 use Rattle.records.proofs.Numbering as Numbering
@@ -116,9 +117,9 @@ sized-good cs s =
 pub reading-good : {text list : List ℕ} {b : Next.Book} → Reading text b list → GoodBook b
 reading-good r = rw (r .book-is) (sized-good (r .rules) (r .sized))
 
--- its check answers 0
-pub reading-checked : {text list : List ℕ} {b : Next.Book} → Reading text b list → bookVerdict (encodeBook b) ≡ good (length b)
-reading-checked {b = b} r = book-written b (reading-good r)
+-- its check answers 0, where it keeps one arity: a text that does not is for the reader's code 7 (document 02, C-18)
+pub reading-checked : {text list : List ℕ} {b : Next.Book} → Reading text b list → OneArity (bookUses b) → bookVerdict (encodeBook b) ≡ good (length b)
+reading-checked {b = b} r one = book-written b (reading-good r) one
 
 -- Queries: a goal that is read is good, where the numbers of the list's names and of the new ones fit into two bytes
 

@@ -1,4 +1,5 @@
--- What a refusal means (document 01, "Codes"): an input's fault, its code and its place, told by what books and queries are and not by how they are read.
+-- What a refusal means (document 01, "Codes"; document 02, C-18): an input's fault, its code and its place, told by what books and queries are and not by how they
+-- are read. A query is held to the uses `us` of predicate numbers in its book; a book to none.
 -- That a check answers just this: proofs/Refusals.
 use Prim.Native.Nat.{ℕ, suc, _≤_, _<_}
 use mathlib.Core.Path.{_≡_}
@@ -13,6 +14,7 @@ use Rattle.records.specs.declared.state.Form.the-variants.{Book, Query}
 use Rattle.records.specs.declared.record.Record.{Record}
 use Rattle.records.specs.declared.record.Record.the-variants.{Variable, Constant, Compound, Formula, Clause, Goal, End}
 use Rattle.records.specs.Format.{recordKind, encodeRecord, encode, nodeRecord, nodeRecords, bookRecords, goalRecords, encodeBook, encodeGoal, AreFormulas, GoodBook, GoodGoal}
+use Rattle.records.specs.Arities.{Use, bookUses, goalUses, usesOf, OneArity, AnotherArity}
 
 -- "The first number of a pair is for the book, the second for the query."
 abbrev pub pair : Form → ℕ → ℕ → ℕ
@@ -103,37 +105,40 @@ pub record Stands (form : Form) (rs : List Record) (rest : List ℕ) (r : Record
   pub bytes : rest ≡ encodeRecord r ++ later
   pub allowed : KindAllowed form rs (recordKind r)
 
--- what stands behind rs fails a test and none before it: "kind, body cut, range, size, variable number". A record is missing where nothing stands there and rs is
+-- what stands behind rs fails a test and none before it: "kind, body cut, range, size, variable number", and the arity, "the last check within a record": a formula
+-- before it, of the book or of the query, uses its predicate number with another. A record is missing where nothing stands there and rs is
 -- not complete; behind complete records no kind is allowed, so any byte there is one after the end; a body is cut where less is left than its record is long.
-pub data Fails (form : Form) (rs : List Record) (rest : List ℕ) (code : ℕ) : Type 0 where
-  missing : rest ≡ [] → (Complete form rs → ⊥) → code ≡ pair form 2 12 → Fails form rs rest code
-  of-kind : (kind : ℕ) (later : List ℕ) → rest ≡ kind ∷ later → (KindAllowed form rs kind → ⊥) → code ≡ pair form 2 12 → Fails form rs rest code
+pub data Fails (form : Form) (us : List Use) (rs : List Record) (rest : List ℕ) (code : ℕ) : Type 0 where
+  missing : rest ≡ [] → (Complete form rs → ⊥) → code ≡ pair form 2 12 → Fails form us rs rest code
+  of-kind : (kind : ℕ) (later : List ℕ) → rest ≡ kind ∷ later → (KindAllowed form rs kind → ⊥) → code ≡ pair form 2 12 → Fails form us rs rest code
   of-cut : (kind : ℕ) (later : List ℕ) → rest ≡ kind ∷ later → (a : KindAllowed form rs kind) → length rest < length (encodeRecord (a .like)) →
-      code ≡ pair form 3 13 → Fails form rs rest code
-  of-range : (r : Record) → Stands form rs rest r → (InRange r → ⊥) → code ≡ pair form 4 14 → Fails form rs rest code
-  of-size : (r : Record) → Stands form rs rest r → InRange r → SizePassed form rs r → code ≡ pair form 5 15 → Fails form rs rest code
-  of-number : (r : Record) → Stands form rs rest r → InRange r → (SizePassed form rs r → ⊥) → NumberAbove rs r → code ≡ pair form 6 16 → Fails form rs rest code
+      code ≡ pair form 3 13 → Fails form us rs rest code
+  of-range : (r : Record) → Stands form rs rest r → (InRange r → ⊥) → code ≡ pair form 4 14 → Fails form us rs rest code
+  of-size : (r : Record) → Stands form rs rest r → InRange r → SizePassed form rs r → code ≡ pair form 5 15 → Fails form us rs rest code
+  of-number : (r : Record) → Stands form rs rest r → InRange r → (SizePassed form rs r → ⊥) → NumberAbove rs r → code ≡ pair form 6 16 → Fails form us rs rest code
+  of-arity : (r : Record) → Stands form rs rest r → InRange r → (SizePassed form rs r → ⊥) → (NumberAbove rs r → ⊥) → AnotherArity (us ++ usesOf rs) r → code ≡ pair form 7 17 → Fails form us rs rest code
 
 -- no size is passed in rs
 abbrev pub WithinSizes : Form → List Record → Type 0
 WithinSizes form rs = (before : List Record) (r : Record) (more : List Record) → rs ≡ before ++ r ∷ more → SizePassed form before r → ⊥
 
 -- a place up to which nothing is wrong: "Its place is the offset of its kind byte."
-pub record GoodUpTo (form : Form) (s : List ℕ) (place : ℕ) : Type 0 where
+pub record GoodUpTo (form : Form) (us : List Use) (s : List ℕ) (place : ℕ) : Type 0 where
   pub before : List Record
   pub rest : List ℕ
   pub bytes : s ≡ encode before ++ rest
   pub offset : place ≡ length (encode before)
   pub begins : Beginning form before
   pub sizes : WithinSizes form before
+  pub arities : OneArity (us ++ usesOf before)
 
 -- "A book over 32,768 bytes is code 5 at place 32,768, and a query over 16,387 bytes is code 15 at place 16,387, before any record is read. Otherwise records
 -- are read in order and the first bad one decides."
-pub data Faulty (form : Form) (s : List ℕ) (code place : ℕ) : Type 0 where
-  over-long : pair form 32768 16387 < length s → code ≡ pair form 5 15 → place ≡ pair form 32768 16387 → Faulty form s code place
-  at-place : length s ≤ pair form 32768 16387 → (g : GoodUpTo form s place) → Fails form (g .before) (g .rest) code → Faulty form s code place
+pub data Faulty (form : Form) (us : List Use) (s : List ℕ) (code place : ℕ) : Type 0 where
+  over-long : pair form 32768 16387 < length s → code ≡ pair form 5 15 → place ≡ pair form 32768 16387 → Faulty form us s code place
+  at-place : length s ≤ pair form 32768 16387 → (g : GoodUpTo form us s place) → Fails form us (g .before) (g .rest) code → Faulty form us s code place
 
--- the image of a good book, or of a good goal
-abbrev pub Good : Form → List ℕ → Type 0
-Good Book s = (b : Next.Book) × GoodBook b × (encodeBook b ≡ s)
-Good Query s = (g : Next.Goal) × GoodGoal g × (encodeGoal g ≡ s)
+-- the image of a good book, or of a good goal, that keeps one arity
+abbrev pub Good : Form → List Use → List ℕ → Type 0
+Good Book us s = (b : Next.Book) × GoodBook b × OneArity (us ++ bookUses b) × (encodeBook b ≡ s)
+Good Query us s = (g : Next.Goal) × GoodGoal g × OneArity (us ++ goalUses g) × (encodeGoal g ≡ s)

@@ -52,10 +52,10 @@ pub fn check_book(book: &[u8]) -> bool
     check(records::check_book(book))
 }
 
-pub fn check_query(query: &[u8]) -> bool
+pub fn check_query(book: &[u8], query: &[u8]) -> bool
     ensures { λ r. ⌜ r ≡ true ⌝ }
 {
-    check(records::check_query(query))
+    check(records::check_query(book, query))
 }
 
 fn stepped(a: Stepped, area: &[u8]) -> bool

@@ -1,5 +1,5 @@
-// The entries that are lent areas, and the picks, which have no use for them. Their items have: a run's budget or an apply's clause number (4 bytes), of
-// which a single step and a pick have no use; the goal area's length (4 bytes), its first byte and what each byte has more than the one before it, modulo
+// The entries that are lent areas, and the check of a query and the picks, which have no use for them. Their items have: a run's budget or an apply's clause number (4 bytes), of
+// which a check, a single step and a pick have no use; the goal area's length (4 bytes), its first byte and what each byte has more than the one before it, modulo
 // 256 (1 byte each); the same of the answer area, of which only a run has use; the book's length (4 bytes), the book, and the query.
 use crate::entries;
 use crate::number;
@@ -34,6 +34,7 @@ fn call(
     ensures { λ r. ⌜ r ≡ true ⌝ }
 {
     match entry {
+        2 => entries::check_query(book, query),
         3 => entries::step(book, query, area),
         4 => entries::run(book, query, number, area, answer),
         5 => entries::run_for_c(book, query, number, area, answer),
