@@ -23,11 +23,13 @@ extern "C" {
 #define PITXARGOLE_BOOK_RANGE 4    /* arity or number of formulas outside its range */
 #define PITXARGOLE_BOOK_SIZE 5     /* a size is passed */
 #define PITXARGOLE_BOOK_VARIABLE 6 /* variable number above the next unused one */
+#define PITXARGOLE_BOOK_ARITY 7    /* the formula's predicate stood before it with another number of arguments: one was forgotten, most likely */
 #define PITXARGOLE_QUERY_KIND 12
 #define PITXARGOLE_QUERY_CUT 13
 #define PITXARGOLE_QUERY_RANGE 14
 #define PITXARGOLE_QUERY_SIZE 15
 #define PITXARGOLE_QUERY_VARIABLE 16
+#define PITXARGOLE_QUERY_ARITY 17 /* in the book, or before it in the query */
 /* A run closed: its last goal's image stands at the front of the goal area, and its answer's image at the front of the answer area. The bytes behind the
    images are as they were. */
 #define PITXARGOLE_SOLVED 20      /* goal empty */
@@ -35,7 +37,7 @@ extern "C" {
 #define PITXARGOLE_STUCK 22       /* the book has clauses for the leftmost formula's predicate and arity, and none of their heads unifies with it */
 #define PITXARGOLE_STEPS 23       /* steps used up */
 #define PITXARGOLE_ROOM 24        /* the next goal has over 512 formulas or 4,096 nodes */
-#define PITXARGOLE_UNKNOWN 26     /* the book has no clause for the leftmost formula's predicate and arity: a slip of the pen, most likely */
+#define PITXARGOLE_UNKNOWN 26     /* the book has no clause for the leftmost formula's predicate: a slip of the pen, most likely */
 #define PITXARGOLE_ANSWER_ROOM 27 /* the next answer has over 4,096 nodes */
 /* A pick gives SOLVED, STUCK or UNKNOWN of the query itself, or else STEP. An apply gives STEP, and the next goal's image stands at the front of the
    area; or it gives SOLVED, NO_CLAUSE, NO_FIT or ROOM, tested in this order, and the area is as it was. */
