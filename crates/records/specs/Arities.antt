@@ -62,7 +62,7 @@ Used p n (u ∷ us) = ((u .number ≡ p) × (u .arity ≡ n)) ⊎ Used p n us
 abbrev pub OneArity : List Use → Type 0
 OneArity us = (p n m : ℕ) → Used p n us → Used p m us → n ≡ m
 
--- a good goal that is asked of a book: "a query that uses one against its book or against itself" is refused
+-- a goal that may be asked of a book: "a query that uses one against its book or against itself" is refused
 abbrev pub Suits : Next.Book → Next.Goal → Type 0
 Suits b g = OneArity (bookUses b ++ goalUses g)
 
