@@ -59,12 +59,17 @@ const meanings = {
     22: ({ steps, goal, reason }) => `Stuck after ${counted(steps, "step")}: no rule fits the first formula of ${goal}. ${reason()}`,
     23: ({ steps, goal }) => `The steps are used up: after ${counted(steps, "step")} the goal is ${goal}`,
     24: ({ steps, goal }) => `No room for the next goal: after ${counted(steps, "step")} the goal is ${goal}`,
-    26: ({ steps, goal }) => `After ${counted(steps, "step")} no rule at all has the predicate and number of arguments of the first formula of ${goal}: a slip of the pen, most likely.`,
+    26: ({ steps, goal }) => `After ${counted(steps, "step")} no rule at all has the predicate of the first formula of ${goal}: a slip of the pen, most likely.`,
     27: ({ steps, goal }) => `No room for the next answer: after ${counted(steps, "step")} the goal is ${goal}`,
 };
 
 // What the codes below say, of the rules or of the query; the notation makes no others.
-const refusals = { 4: "a number of arguments or formulas is out of range", 5: "a size is passed", 6: "a variable's number is too large" };
+const refusals = {
+    4: "a number of arguments or formulas is out of range",
+    5: "a size is passed",
+    6: "a variable's number is too large",
+    7: "its predicate stands before with another number of arguments; one was forgotten, most likely",
+};
 
 function refusalOf(code, place) {
     return `The ${code > 10 ? "query" : "book"} is refused at byte ${place}: ${refusals[code % 10] ?? `code ${code}`}.`;

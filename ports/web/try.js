@@ -18,8 +18,8 @@ const answerTo = (rules, query, budget = 10000) => answerOf(modules, { rules, qu
 const said = {
     solved: "Solved after 3 steps.",
     stuck: "Stuck after 2 steps: no rule fits the first formula of opens(valve_3,c8). Rule 3, opens(valve_3,c7). gets furthest, and fails at argument 2.",
-    mistyped:
-        "After 0 steps no rule at all has the predicate and number of arguments of the first formula of suplies(V0,c7): a slip of the pen, most likely.",
+    mistyped: "After 0 steps no rule at all has the predicate of the first formula of suplies(V0,c7): a slip of the pen, most likely.",
+    forgotten: "The query is refused at byte 3: its predicate stands before with another number of arguments; one was forgotten, most likely.",
     loop: "A loop, found at step 1: the leftmost formula comes back every step, and the search would never end. The goal there: upstream(tank,V0), pipe(V0,V1)",
 };
 
