@@ -1,0 +1,6 @@
+-- The heap and what it means (Heap), node by node (HeapLaws); past bound variables (Following); walks over what rows stand for (Walking).
+pub mod Heap
+pub mod HeapLaws
+pub mod Following
+pub mod Walking
+pub mod WalkLaws
