@@ -34,7 +34,7 @@ same-bound {heap} {cells} {p} {q} made r k b e = record {
   inside = row-inside heap 0 b (made .whole _ b e);
   same = λ θ s.
       r .same θ s ∙ ap (apply θ) (rows-var heap 0 q (r .inside) k ∙ ap (λ x. var (getD heap q 0 % 65536) ∷ x) (rows-none heap (suc q)))
-          ∙ append-nil (θ (getD heap q 0 % 65536)) ∙ s .stands _ b e;
+      ∙ append-nil (θ (getD heap q 0 % 65536)) ∙ s .stands _ b e;
   whole = λ w. made .whole _ b e;
 }
 

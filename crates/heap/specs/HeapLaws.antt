@@ -60,7 +60,7 @@ module _ (heap : List ℕ) (k p : ℕ) (inside : p < length heap) where
     rows-sym =
         let (s, e, a) = node-arity (getD heap p 0) valid is in
         ap (firsts (suc k)) (at-node heap p inside ∙ ap (λ n. n ∷ drop (suc p) (nodes heap)) e)
-            ∙ ap (λ n. sym s ∷ rows heap (n + k) (suc p)) a ∙ ap (λ n. n ∷ rows heap (arityOf (getD heap p 0) + k) (suc p)) (inv e)
+        ∙ ap (λ n. sym s ∷ rows heap (n + k) (suc p)) a ∙ ap (λ n. n ∷ rows heap (arityOf (getD heap p 0) + k) (suc p)) (inv e)
 
     pub whole-sym : Whole heap (suc k) p → Whole heap (arityOf (getD heap p 0) + k) (suc p)
     whole-sym r =

@@ -1,6 +1,10 @@
--- The heap and what it means (Heap), node by node (HeapLaws); past bound variables (Following); walks over what rows stand for (Walking).
+-- The heap and what it means (Heap), node by node (HeapLaws); past bound variables (Following); walks over what rows stand for (Walking, WalkLaws); what is
+-- written of them (Writing).
 pub mod Heap
 pub mod HeapLaws
 pub mod Following
 pub mod Walking
 pub mod WalkLaws
+pub mod Writing
+pub mod WriteLaws
+pub mod PartLaws

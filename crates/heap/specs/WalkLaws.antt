@@ -126,7 +126,7 @@ module _ {heap cells levels : List ℕ} (made : Made heap cells) {w : Walk} (rea
   visit-symbol e high ea er ex ey = rw er (rw ex (rw ey (rw ea (rw e (record {
     same = λ θ s.
         ahead-is θ ∙ ap (λ x. apply θ x ++ behind heap levels θ (w .depth)) (rows-sym heap d p walk-inside (fit .valid) plain ∙ ap (λ n. n ∷ after) symbol)
-            ∙ ap₂ _∷_ (inv symbol) (inv (settled-ahead levels heap θ (suc p) (arityOf (getD heap p 0) + d) (w .depth)));
+        ∙ ap₂ _∷_ (inv symbol) (inv (settled-ahead levels heap θ (suc p) (arityOf (getD heap p 0) + d) (w .depth)));
     ready = settled-ready levels heap (suc p) (arityOf (getD heap p 0) + d) (w .depth) (whole-sym heap d p walk-inside (fit .valid) plain front) (ready .back) (ready .room);
     fit = fit;
     deep = omega (arith, settled-deep levels heap (suc p) (arityOf (getD heap p 0) + d) (w .depth));
@@ -164,10 +164,10 @@ module _ {heap cells levels : List ℕ} (made : Made heap cells) {w : Walk} (rea
     ahead-var θ s =
         let v = getD heap p 0 % 65536 in
         let one : θ v ≡ apply θ (rows heap 1 q)
-            = inv (append-nil (θ v)) ∙ ap (λ x. θ v ++ apply θ x) (inv (rows-none heap (suc p))) ∙ ap (apply θ) (inv (rows-var heap 0 p walk-inside is-var)) ∙ there .row .same θ s in
+        = inv (append-nil (θ v)) ∙ ap (λ x. θ v ++ apply θ x) (inv (rows-none heap (suc p))) ∙ ap (apply θ) (inv (rows-var heap 0 p walk-inside is-var)) ∙ there .row .same θ s in
         ahead-is θ ∙ ap (λ x. apply θ x ++ behind heap levels θ (w .depth)) (rows-var heap d p walk-inside is-var)
-            ∙ ap (λ x. (x ++ apply θ (rows heap d (suc p))) ++ behind heap levels θ (w .depth)) one
-            ∙ append-assoc (apply θ (rows heap 1 q)) (apply θ (rows heap d (suc p))) (behind heap levels θ (w .depth))
+        ∙ ap (λ x. (x ++ apply θ (rows heap d (suc p))) ++ behind heap levels θ (w .depth)) one
+        ∙ append-assoc (apply θ (rows heap 1 q)) (apply θ (rows heap d (suc p))) (behind heap levels θ (w .depth))
 
     -- what stands at q where it is a symbol
     symbol-row : (n : kindOf (getD heap q 0) ≡ 1 → ⊥) (θ : Subst) → apply θ (rows heap 1 q) ≡ node (getD heap q 0) ∷ apply θ (rows heap (arityOf (getD heap q 0) + 0) (suc q))
@@ -182,7 +182,7 @@ module _ {heap cells levels : List ℕ} (made : Made heap cells) {w : Walk} (rea
       | yes k ↦
           let y = getD heap q 0 % 65536 in
           ap (apply θ) (rows-var heap 0 q (there .row .inside) k ∙ ap (λ x. var y ∷ x) (rows-none heap (suc q))) ∙ append-nil (θ y) ∙ s .free y (there .stops k)
-              ∙ ap (λ x. x ∷ []) (inv (node-var (getD heap q 0) k))
+          ∙ ap (λ x. x ∷ []) (inv (node-var (getD heap q 0) k))
       | no n ↦ symbol-row n θ ∙ ap (λ a. node (getD heap q 0) ∷ apply θ (rows heap (a + 0) (suc q))) z ∙ ap (λ x. node (getD heap q 0) ∷ apply θ x) (rows-none heap (suc q))
     ]
 
@@ -212,7 +212,7 @@ module _ {heap cells levels : List ℕ} (made : Made heap cells) {w : Walk} (rea
           → ahead heap levels θ w ≡ node (getD heap q 0) ∷ (apply θ (rows heap k (suc q)) ++ (apply θ (rows heap d (suc p)) ++ behind heap levels θ (w .depth)))
       after-node θ s =
           ahead-var θ s ∙ ap (λ x. x ++ (apply θ (rows heap d (suc p)) ++ behind heap levels θ (w .depth)))
-              (symbol-row no-var θ ∙ ap (λ n. node (getD heap q 0) ∷ apply θ (rows heap n (suc q))) arity-is)
+          (symbol-row no-var θ ∙ ap (λ n. node (getD heap q 0) ∷ apply θ (rows heap n (suc q))) arity-is)
 
       visit-alone : w .due ≡ 1 → Visited heap cells levels w (getD heap q 0) levels (walk (suc q) k (w .depth))
       visit-alone one = record {

@@ -9,6 +9,7 @@ ghost use Rattle.heap.specs.Heap.{Made};
 ghost use Rattle.heap.specs.Following.{Followed};
 
 pub mod walking; // from node to node, through bindings
+pub mod writing; // written out, numbered by first appearance
 
 // Words below this are variables' words.
 pub const SYMBOL: u32 = 0x200_0000;
