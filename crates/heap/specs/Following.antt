@@ -11,13 +11,13 @@ use Rattle.terms.specs.Node.{var}
 use Rattle.terms.specs.When.{_⇒_∣_}
 use Rattle.terms.specs.Subst.{Subst, apply}
 use Rattle.words.specs.Word.{kindOf}
-use Rattle.heap.specs.Heap.{rows, Whole, bound, Made, Solved}
+use Rattle.heap.specs.Heap.{rows, Whole, bound, Made, Solves}
 use Rattle.heap.specs.HeapLaws.{rows-none, row-inside, rows-var, whole-var-back}
 
 -- the row at q stands for what the one at p does
 pub record Same-row (heap cells : List ℕ) (p q : ℕ) : Type 0 where
   pub inside : q < length heap
-  pub same : (θ : Subst) → Solved heap cells θ → apply θ (rows heap 1 p) ≡ apply θ (rows heap 1 q)
+  pub same : (θ : Subst) → Solves heap cells θ → apply θ (rows heap 1 p) ≡ apply θ (rows heap 1 q)
   pub whole : Whole heap 1 p → Whole heap 1 q
 
 -- and begins with a symbol, or is a variable that is not bound

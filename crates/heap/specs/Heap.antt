@@ -29,8 +29,13 @@ pub record Made (heap cells : List ℕ) : Type 0 where
   pub whole : (v p : ℕ) → bound cells v ≡ suc p → Whole heap 1 p
   pub lower : (v p : ℕ) → bound cells v ≡ suc p → kindOf (getD heap p 0) ≡ 1 → getD heap p 0 % 65536 < v
 
--- What it means: θ is the one solution of the bindings that leaves every other variable. There is one just where no term is bound into itself.
+-- τ solves the bindings: what a variable is bound to becomes equal to it
+pub record Solves (heap cells : List ℕ) (τ : Subst) : Type 0 where
+  pub proper : Proper τ
+  pub stands : (v p : ℕ) → bound cells v ≡ suc p → τ v ≡ apply τ (rows heap 1 p)
+
+-- What the heap means: θ is the solution that leaves every variable that is not bound. There is one just where no term is bound into itself; it is one only, and most
+-- general (SolvedLaws).
 pub record Solved (heap cells : List ℕ) (θ : Subst) : Type 0 where
-  pub proper : Proper θ
+  pub solves : Solves heap cells θ
   pub free : (v : ℕ) → bound cells v ≡ 0 → θ v ≡ itself v
-  pub stands : (v p : ℕ) → bound cells v ≡ suc p → θ v ≡ apply θ (rows heap 1 p)

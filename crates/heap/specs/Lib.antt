@@ -2,6 +2,8 @@
 -- written of them (Writing).
 pub mod Heap
 pub mod HeapLaws
+pub mod SolvedLaws
+pub mod BindLaws
 pub mod Following
 pub mod Walking
 pub mod WalkLaws

@@ -80,7 +80,7 @@ module _ {heap cells names out : List ℕ} {pen : Pen} {from : Walk} {limit : �
         refl,
         λ θ s.
             let (done, same, p) = x .so-far θ s in
-            let left = row-long (apply-row θ (s .proper) (x .ready .front)) in
+            let left = row-long (apply-row θ (s .solves .proper) (x .ready .front)) in
             omega (arith, e, some, p .at, left, length-append done (ahead heap levels θ w), length-append (apply θ (rows heap (w .due) (w .at))) (behind heap levels θ (w .depth)), ap length same),
       );
     }

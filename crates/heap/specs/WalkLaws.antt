@@ -164,7 +164,7 @@ module _ {heap cells levels : List ℕ} (made : Made heap cells) {w : Walk} (rea
     ahead-var θ s =
         let v = getD heap p 0 % 65536 in
         let one : θ v ≡ apply θ (rows heap 1 q)
-        = inv (append-nil (θ v)) ∙ ap (λ x. θ v ++ apply θ x) (inv (rows-none heap (suc p))) ∙ ap (apply θ) (inv (rows-var heap 0 p walk-inside is-var)) ∙ there .row .same θ s in
+        = inv (append-nil (θ v)) ∙ ap (λ x. θ v ++ apply θ x) (inv (rows-none heap (suc p))) ∙ ap (apply θ) (inv (rows-var heap 0 p walk-inside is-var)) ∙ there .row .same θ (s .solves) in
         ahead-is θ ∙ ap (λ x. apply θ x ++ behind heap levels θ (w .depth)) (rows-var heap d p walk-inside is-var)
         ∙ ap (λ x. (x ++ apply θ (rows heap d (suc p))) ++ behind heap levels θ (w .depth)) one
         ∙ append-assoc (apply θ (rows heap 1 q)) (apply θ (rows heap d (suc p))) (behind heap levels θ (w .depth))
