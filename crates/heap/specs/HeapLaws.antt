@@ -1,14 +1,14 @@
 -- Rows of the heap, node by node.
-use Prim.Native.Nat.{ℕ, zero, suc, _+_, _%_, _<_, _≤_}
+use Prim.Native.Nat.{ℕ, zero, suc, _+_, _-_, _%_, _<_, _≤_}
 use native.Mathlib.Omega.{arith}
-use native.Mathlib.Decide.{decLt}
-use mathlib.Core.Path.{_≡_, refl, sym as inv, ap, _∙_, subst}
-use mathlib.Core.List.{List, [], _∷_, _++_}
-use lib.ListN.{length, getD, drop, take, length-take, length-drop, length-map, drop-of-length-le}
-use lib.Seq.{drop-cons}
+use native.Mathlib.Decide.{ℕ-discrete, decLt}
+use mathlib.Core.Path.{_≡_, refl, sym as inv, ap, ap₂, _∙_, subst}
+use mathlib.Core.List.{List, [], _∷_, _++_, append-assoc}
+use lib.ListN.{length, getD, drop, take, take-append-drop, length-take, length-drop, length-map, drop-of-length-le}
+use lib.Seq.{drop-cons, drop-drop, drop-append-seam}
 use Rattle.terms.specs.Node.{Symbol, arity, var, sym, Expr}
 use Rattle.terms.specs.Row.{Row, row-end, row-var, row-sym, span}
-use Rattle.terms.specs.RowLaws.{row-long}
+use Rattle.terms.specs.RowLaws.{row-long, row-split, first-row}
 use Rattle.terms.specs.Subst.{Subst, apply}
 use Rattle.terms.specs.Argument.{firsts}
 use Rattle.words.specs.Word.{kindOf, arityOf, Plain, Valid, node, nodes}
@@ -69,3 +69,113 @@ module _ (heap : List ℕ) (k p : ℕ) (inside : p < length heap) where
       where
         go : {s : Symbol} {e : Expr} → Row (suc k) (sym s ∷ e) → Row (arity s + k) e
         go (row-sym r) = r
+
+-- a node, its arguments and k rows behind them, be it a variable's or a symbol's
+module _ (heap : List ℕ) (k p : ℕ) (inside : p < length heap) (valid : Valid (getD heap p 0)) where
+  bare : kindOf (getD heap p 0) ≡ 1 → arityOf (getD heap p 0) + k ≡ k
+  bare e = omega (arith, valid .bare (omega (arith, e)))
+
+  pub rows-node : length (rows heap (suc k) p) ≡ suc (length (rows heap (arityOf (getD heap p 0) + k) (suc p)))
+  rows-node = elim (ℕ-discrete (kindOf (getD heap p 0)) 1) [
+    | yes e ↦ ap length (rows-var heap k p inside e) ∙ ap (λ n. suc (length (rows heap n (suc p)))) (inv (bare e))
+    | no n ↦ ap length (rows-sym heap k p inside valid n)
+  ]
+
+  pub whole-node : Whole heap (suc k) p → Whole heap (arityOf (getD heap p 0) + k) (suc p)
+  whole-node r = elim (ℕ-discrete (kindOf (getD heap p 0)) 1) [
+    | yes e ↦ subst (λ n. Whole heap n (suc p)) (inv (bare e)) (whole-var heap k p inside e r)
+    | no n ↦ whole-sym heap k p inside valid n r
+  ]
+
+-- The first row, and those behind it.
+
+-- k rows of an expression behind the first m
+pub record Split (n m k : ℕ) (e : Expr) : Type 0 where
+  pub first : Row m (firsts m e)
+  pub rest : Row k (firsts k (drop (length (firsts m e)) e))
+  pub both : firsts n e ≡ firsts m e ++ firsts k (drop (length (firsts m e)) e)
+
+split : (n m k : ℕ) → n ≡ m + k → (e : Expr) → Row n (firsts n e) → Split n m k e
+split n m k sum e r = record {
+  first = subst (Row m) (inv fore) (x .0);
+  rest = subst (Row k) (inv aft) (x .1);
+  both = parts ∙ ap₂ _++_ (inv fore) (inv aft);
+}
+  where
+    w : Expr
+    w = firsts n e
+
+    x : Row m (take (span m w) w) × Row k (drop (span m w) w)
+    x = row-split m k sum r
+
+    a : Expr
+    a = take (span m w) w
+
+    b : Expr
+    b = drop (span m w) w
+
+    left : Expr
+    left = drop (span n e) e
+
+    parts : w ≡ a ++ b
+    parts = inv (take-append-drop (span m w) w)
+
+    whole : e ≡ a ++ (b ++ left)
+    whole = inv (take-append-drop (span n e) e) ∙ ap (λ y. y ++ left) parts ∙ append-assoc a b left
+
+    fore : firsts m e ≡ a
+    fore = ap (firsts m) whole ∙ first-row (x .0) (b ++ left)
+
+    aft : firsts k (drop (length (firsts m e)) e) ≡ b
+    aft = ap₂ (λ n y. firsts k (drop n y)) (ap length fore) whole ∙ ap (firsts k) (drop-append-seam a (b ++ left)) ∙ first-row (x .1) left
+
+module _ (heap : List ℕ) (k p : ℕ) (r : Whole heap (suc k) p) where
+  parted : Split (suc k) 1 k (drop p (nodes heap))
+  parted = split (suc k) 1 k (omega arith) (drop p (nodes heap)) r
+
+  pub first-whole : Whole heap 1 p
+  first-whole = parted .first
+
+  module _ {q : ℕ} (e : q ≡ p + length (rows heap 1 p)) where
+    there : drop (length (rows heap 1 p)) (drop p (nodes heap)) ≡ drop q (nodes heap)
+    there = drop-drop (length (rows heap 1 p)) p (nodes heap) ∙ ap (λ n. drop n (nodes heap)) (inv e)
+
+    pub rest-whole : Whole heap k q
+    rest-whole = subst (λ y. Row k (firsts k y)) there (parted .rest)
+
+    pub rows-first : rows heap (suc k) p ≡ rows heap 1 p ++ rows heap k q
+    rows-first = parted .both ∙ ap (λ y. rows heap 1 p ++ firsts k y) there
+
+-- Where a row ends: after some of its words, so many rows are still to come.
+pub record Passing (heap : List ℕ) (p at due : ℕ) : Type 0 where
+  pub ahead : Whole heap due at
+  pub sum : p + length (rows heap 1 p) ≡ at + length (rows heap due at)
+
+pub pass-start : {heap : List ℕ} {p : ℕ} → Whole heap 1 p → Passing heap p p 1
+pass-start r = record { ahead = r; sum = refl }
+
+pub pass-inside : {heap : List ℕ} {p at due : ℕ} → Passing heap p at due → 0 < due → at < length heap
+pass-inside {heap} {at = at} {due} x l = row-inside heap (due - 1) at (subst (λ n. Whole heap n at) (omega (arith, l)) (x .ahead))
+
+pub pass-few : {heap : List ℕ} {p at due : ℕ} → Passing heap p at due → due ≤ length heap
+pass-few {heap} {at = at} {due} x = rows-few heap due at (x .ahead)
+
+pub pass-on : {heap : List ℕ} {p at due : ℕ} → Passing heap p at due → Valid (getD heap at 0) → 0 < due → {u a at′ due′ : ℕ} → u ≡ getD heap at 0 → a ≡ arityOf u → at′ ≡ suc at → due′ ≡ due - 1 + a → Passing heap p at′ due′
+pass-on {heap} {p} {at} {due} x valid l {due′ = due′} eu ea e d = rw e (rw next (record { ahead = whole-node heap (due - 1) at inside valid here; sum = omega (arith, x .sum, rows-node heap (due - 1) at inside valid, ap (λ n. length (rows heap n at)) is) }))
+  where
+    inside : at < length heap
+    inside = pass-inside x l
+
+    is : due ≡ suc (due - 1)
+    is = omega (arith, l)
+
+    here : Whole heap (suc (due - 1)) at
+    here = subst (λ n. Whole heap n at) is (x .ahead)
+
+    next : due′ ≡ arityOf (getD heap at 0) + (due - 1)
+    next = omega (arith, d, ea, ap arityOf eu)
+
+pub pass-end : {heap : List ℕ} {p at due : ℕ} → Passing heap p at due → due ≤ 0 → at ≡ p + length (rows heap 1 p)
+pass-end {heap} {at = at} {due} x z =
+    let zero-due : due ≡ 0 = omega (arith, z) in
+    omega (arith, x .sum, ap (λ n. length (rows heap n at)) zero-due, ap length (rows-none heap at))
