@@ -3,7 +3,7 @@ use Prim.Native.Nat.{ℕ, zero, suc, _+_, _-_, _%_, _<_, _≤_}
 use native.Mathlib.Omega.{arith}
 use native.Mathlib.Decide.{ℕ-discrete, decLt}
 use mathlib.Core.Path.{_≡_, refl, sym as inv, ap, ap₂, _∙_, subst}
-use mathlib.Core.List.{List, [], _∷_, _++_, append-assoc}
+use mathlib.Core.List.{List, [], _∷_, _++_, append-nil, append-assoc}
 use lib.ListN.{length, getD, drop, take, take-append-drop, length-take, length-drop, length-map, drop-of-length-le}
 use lib.Seq.{drop-cons, drop-drop, drop-append-seam}
 use Rattle.terms.specs.Node.{Symbol, arity, var, sym, Expr}
@@ -12,7 +12,7 @@ use Rattle.terms.specs.RowLaws.{row-long, row-split, first-row}
 use Rattle.terms.specs.Subst.{Subst, apply}
 use Rattle.terms.specs.Argument.{firsts}
 use Rattle.words.specs.Word.{kindOf, arityOf, Plain, Valid, node, nodes}
-use Rattle.words.specs.WordLaws.{node-var, node-arity, nodes-drop}
+use Rattle.words.specs.WordLaws.{node-var, node-sym, node-arity, nodes-drop}
 use Rattle.heap.specs.Heap.{rows, Whole}
 
 pub rows-none : (heap : List ℕ) (p : ℕ) → rows heap 0 p ≡ []
@@ -69,6 +69,18 @@ module _ (heap : List ℕ) (k p : ℕ) (inside : p < length heap) where
       where
         go : {s : Symbol} {e : Expr} → Row (suc k) (sym s ∷ e) → Row (arity s + k) e
         go (row-sym r) = r
+
+-- what one row stands for, of a variable and of a symbol
+module _ (heap : List ℕ) (p : ℕ) (inside : p < length heap) (τ : Subst) where
+  pub stands-var : kindOf (getD heap p 0) ≡ 1 → apply τ (rows heap 1 p) ≡ τ (getD heap p 0 % 65536)
+  stands-var k = ap (apply τ) (rows-var heap 0 p inside k ∙ ap (λ x. var (getD heap p 0 % 65536) ∷ x) (rows-none heap (suc p))) ∙ append-nil (τ (getD heap p 0 % 65536))
+
+  pub stands-sym : Valid (getD heap p 0) → (n : Plain (getD heap p 0)) → {k : ℕ} → k ≡ arityOf (getD heap p 0) → apply τ (rows heap 1 p) ≡ node (getD heap p 0) ∷ apply τ (rows heap k (suc p))
+  stands-sym valid n {k} e =
+      let (s, x) = node-sym (getD heap p 0) n in
+      let args = rows heap (arityOf (getD heap p 0) + 0) (suc p) in
+      let same : arityOf (getD heap p 0) + 0 ≡ k = omega (arith, e) in
+      ap (apply τ) (rows-sym heap 0 p inside valid n ∙ ap (λ y. y ∷ args) x) ∙ ap (λ y. y ∷ apply τ args) (inv x) ∙ ap (λ j. node (getD heap p 0) ∷ apply τ (rows heap j (suc p))) same
 
 -- a node, its arguments and k rows behind them, be it a variable's or a symbol's
 module _ (heap : List ℕ) (k p : ℕ) (inside : p < length heap) (valid : Valid (getD heap p 0)) where

@@ -13,7 +13,7 @@ use Rattle.terms.specs.Subst.{Subst, apply, itself}
 use Rattle.words.specs.Word.{kindOf, arityOf, Fit, node}
 use Rattle.words.specs.WordLaws.{node-var, node-sym}
 use Rattle.heap.specs.Heap.{rows, Whole, bound, Made, Solved}
-use Rattle.heap.specs.HeapLaws.{rows-none, row-inside, rows-few, rows-var, rows-sym, whole-var, whole-var-back, whole-sym}
+use Rattle.heap.specs.HeapLaws.{rows-none, row-inside, rows-few, rows-var, rows-sym, stands-var, stands-sym, whole-var, whole-var-back, whole-sym}
 use Rattle.heap.specs.Following.{Followed}
 use Rattle.heap.specs.Walking.{level-at, level-due, behind, ahead, Levels, Ready, settled, settled-at, entered, pushed, Visited}
 use Rattle.heap.specs.declared.walking.Walk.{Walk}
@@ -164,26 +164,16 @@ module _ {heap cells levels : List ℕ} (made : Made heap cells) {w : Walk} (rea
     ahead-var θ s =
         let v = getD heap p 0 % 65536 in
         let one : θ v ≡ apply θ (rows heap 1 q)
-        = inv (append-nil (θ v)) ∙ ap (λ x. θ v ++ apply θ x) (inv (rows-none heap (suc p))) ∙ ap (apply θ) (inv (rows-var heap 0 p walk-inside is-var)) ∙ there .row .same θ (s .solves) in
+        = inv (stands-var heap p walk-inside θ is-var) ∙ there .row .same θ (s .solves) in
         ahead-is θ ∙ ap (λ x. apply θ x ++ behind heap levels θ (w .depth)) (rows-var heap d p walk-inside is-var)
         ∙ ap (λ x. (x ++ apply θ (rows heap d (suc p))) ++ behind heap levels θ (w .depth)) one
         ∙ append-assoc (apply θ (rows heap 1 q)) (apply θ (rows heap d (suc p))) (behind heap levels θ (w .depth))
 
-    -- what stands at q where it is a symbol
-    symbol-row : (n : kindOf (getD heap q 0) ≡ 1 → ⊥) (θ : Subst) → apply θ (rows heap 1 q) ≡ node (getD heap q 0) ∷ apply θ (rows heap (arityOf (getD heap q 0) + 0) (suc q))
-    symbol-row n θ =
-        let (s, e) = node-sym (getD heap q 0) n in
-        let args = rows heap (arityOf (getD heap q 0) + 0) (suc q) in
-        ap (apply θ) (rows-sym heap 0 q (there .row .inside) (at-q .valid) n ∙ ap (λ x. x ∷ args) e) ∙ ap (λ x. x ∷ apply θ args) (inv e)
-
     -- a leaf: a constant, or a variable that is not bound
     leaf-row : arityOf (getD heap q 0) ≡ 0 → (θ : Subst) → Solved heap cells θ → apply θ (rows heap 1 q) ≡ node (getD heap q 0) ∷ []
     leaf-row z θ s = elim (ℕ-discrete (kindOf (getD heap q 0)) 1) [
-      | yes k ↦
-          let y = getD heap q 0 % 65536 in
-          ap (apply θ) (rows-var heap 0 q (there .row .inside) k ∙ ap (λ x. var y ∷ x) (rows-none heap (suc q))) ∙ append-nil (θ y) ∙ s .free y (there .stops k)
-          ∙ ap (λ x. x ∷ []) (inv (node-var (getD heap q 0) k))
-      | no n ↦ symbol-row n θ ∙ ap (λ a. node (getD heap q 0) ∷ apply θ (rows heap (a + 0) (suc q))) z ∙ ap (λ x. node (getD heap q 0) ∷ apply θ x) (rows-none heap (suc q))
+      | yes k ↦ stands-var heap q (there .row .inside) θ k ∙ s .free _ (there .stops k) ∙ ap (λ x. x ∷ []) (inv (node-var (getD heap q 0) k))
+      | no n ↦ stands-sym heap q (there .row .inside) θ (at-q .valid) n (inv z) ∙ ap (λ x. node (getD heap q 0) ∷ apply θ x) (rows-none heap (suc q))
     ]
 
     pub visit-leaf : {x : ℕ} → x ≡ getD heap q 0 → {k : ℕ} → k ≡ arityOf x → k ≡ 0 → {a b : ℕ} {r : Walk} → r ≡ settled levels (walk a b (w .depth)) → a ≡ suc p → b ≡ d
@@ -212,7 +202,7 @@ module _ {heap cells levels : List ℕ} (made : Made heap cells) {w : Walk} (rea
           → ahead heap levels θ w ≡ node (getD heap q 0) ∷ (apply θ (rows heap k (suc q)) ++ (apply θ (rows heap d (suc p)) ++ behind heap levels θ (w .depth)))
       after-node θ s =
           ahead-var θ s ∙ ap (λ x. x ++ (apply θ (rows heap d (suc p)) ++ behind heap levels θ (w .depth)))
-          (symbol-row no-var θ ∙ ap (λ n. node (getD heap q 0) ∷ apply θ (rows heap n (suc q))) arity-is)
+          (stands-sym heap q (there .row .inside) θ (at-q .valid) no-var (ek ∙ ap arityOf ex))
 
       visit-alone : w .due ≡ 1 → Visited heap cells levels w (getD heap q 0) levels (walk (suc q) k (w .depth))
       visit-alone one = record {

@@ -1,0 +1,3 @@
+// Two rows of the heap made equal by binding variables.
+
+pub mod meeting; // what two rows come to
