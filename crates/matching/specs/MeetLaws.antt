@@ -51,7 +51,7 @@ module _ {heap cells : List ℕ} (made : Made heap cells) {p q a b : ℕ} (left 
       | yes k ↦ stands-var heap a (left .row .inside) τ k ∙ ap (λ u. τ (u % 65536)) same ∙ inv (stands-var heap b (right .row .inside) τ (inv (ap kindOf same) ∙ k))
       | no n ↦
           stands-sym heap a (left .row .inside) τ (fit-a .valid) n (inv z) ∙ ap (λ e. node x ∷ apply τ e) (rows-none heap (suc a) ∙ inv (rows-none heap (suc b))) ∙ ap (λ u. node u ∷ apply τ (rows heap 0 (suc b))) same
-              ∙ inv (stands-sym heap b (right .row .inside) τ (fit-b .valid) (λ k. n (ap kindOf same ∙ k)) (inv z ∙ ap arityOf same))
+          ∙ inv (stands-sym heap b (right .row .inside) τ (fit-b .valid) (λ k. n (ap kindOf same ∙ k)) (inv z ∙ ap arityOf same))
     ])
 
     pub met-inside : {k : ℕ} → k ≡ arityOf x → (k ≡ 0 → ⊥) → {c d : ℕ} → c ≡ suc a → d ≡ suc b → Met heap cells p q (Inside c d k)
@@ -123,13 +123,13 @@ module _ {heap cells : List ℕ} (made : Made heap cells) {p q a b : ℕ} (left 
     pub met-apart : Met heap cells p q (apart x y a b)
     met-apart = elim (decLt x 33554432) [
       | yes lx ↦ elim (decLt y 33554432) [
-          | yes ly ↦ rw (lt-ltb x 33554432 lx) (rw (lt-ltb y 33554432 ly) (both-vars (var-a lx) (var-b ly)))
-          | no ny ↦ rw (lt-ltb x 33554432 lx) (rw (le-ltb y 33554432 (omega (arith, ny))) (bind-left (var-a lx), λ k. omega (arith, ny, k)))
-        ]
+        | yes ly ↦ rw (lt-ltb x 33554432 lx) (rw (lt-ltb y 33554432 ly) (both-vars (var-a lx) (var-b ly)))
+        | no ny ↦ rw (lt-ltb x 33554432 lx) (rw (le-ltb y 33554432 (omega (arith, ny))) (bind-left (var-a lx), λ k. omega (arith, ny, k)))
+      ]
       | no nx ↦ elim (decLt y 33554432) [
-          | yes ly ↦ rw (le-ltb x 33554432 (omega (arith, nx))) (rw (lt-ltb y 33554432 ly) (bind-right (var-b ly), λ k. omega (arith, nx, k)))
-          | no ny ↦ rw (le-ltb x 33554432 (omega (arith, nx))) (rw (le-ltb y 33554432 (omega (arith, ny))) (clash (λ k. omega (arith, nx, k)) (λ k. omega (arith, ny, k))))
-        ]
+        | yes ly ↦ rw (le-ltb x 33554432 (omega (arith, nx))) (rw (lt-ltb y 33554432 ly) (bind-right (var-b ly), λ k. omega (arith, nx, k)))
+        | no ny ↦ rw (le-ltb x 33554432 (omega (arith, nx))) (rw (le-ltb y 33554432 (omega (arith, ny))) (clash (λ k. omega (arith, nx, k)) (λ k. omega (arith, ny, k))))
+      ]
     ]
 
 -- The five ways apart, from the tests.

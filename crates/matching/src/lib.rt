@@ -1,3 +1,4 @@
 // Two rows of the heap made equal by binding variables.
 
 pub mod meeting; // what two rows come to
+pub mod pairs; // pairs that are still due
