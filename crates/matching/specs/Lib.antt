@@ -1,5 +1,7 @@
--- What two rows come to (Meeting, MeetLaws); pairs of rows that are due (Pairs, PairLaws).
+-- What two rows come to (Meeting, MeetLaws); pairs of rows that are due (Pairs, PairLaws); the occur check
+-- (Occurring).
 pub mod Meeting
 pub mod MeetLaws
 pub mod Pairs
 pub mod PairLaws
+pub mod Occurring

@@ -2,3 +2,4 @@
 
 pub mod meeting; // what two rows come to
 pub mod pairs; // pairs that are still due
+pub mod occurring; // the occur check
