@@ -1,7 +1,8 @@
 -- What two rows come to (Meeting, MeetLaws); pairs of rows that are due (Pairs, PairLaws); the occur check
--- (Occurring).
+-- (Occurring); what a trial has bound (Binding).
 pub mod Meeting
 pub mod MeetLaws
 pub mod Pairs
 pub mod PairLaws
 pub mod Occurring
+pub mod Binding
