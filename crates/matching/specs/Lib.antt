@@ -1,8 +1,10 @@
 -- What two rows come to (Meeting, MeetLaws); pairs of rows that are due (Pairs, PairLaws); the occur check
--- (Occurring); what a trial has bound (Binding).
+-- (Occurring); what a trial has bound (Binding); two rows made equal (Unifying, StepLaws).
 pub mod Meeting
 pub mod MeetLaws
 pub mod Pairs
 pub mod PairLaws
 pub mod Occurring
 pub mod Binding
+pub mod Unifying
+pub mod StepLaws

@@ -39,6 +39,8 @@ module _ (heap : List ℕ) (x : Pairs) (some : 0 < x .due) (left : Whole heap (x
   behind-more {p′} {q′} ep eq en = rw en (record {
     left = rest-whole heap d (x .p) (subst (λ n. Whole heap n (x .p)) is left) ep;
     right = rest-whole heap d (x .q) (subst (λ n. Whole heap n (x .q)) is right) eq;
+    left-on = omega (arith, ep);
+    right-on = omega (arith, eq);
     due = refl;
     depth = refl;
     just = λ τ proper. subst (λ n. Equal heap τ n (x .p) (x .q) ↔ (Equal heap τ 1 (x .p) (x .q) × Equal heap τ d p′ q′)) (inv is)
@@ -49,6 +51,8 @@ module _ (heap : List ℕ) (x : Pairs) (some : 0 < x .due) (left : Whole heap (x
   behind-last e = record {
     left = none (x .p);
     right = none (x .q);
+    left-on = omega arith;
+    right-on = omega arith;
     due = omega (arith, e);
     depth = refl;
     just = λ τ proper. (

@@ -4,3 +4,4 @@ pub mod meeting; // what two rows come to
 pub mod pairs; // pairs that are still due
 pub mod occurring; // the occur check
 pub mod binding; // bindings, and how they are undone
+pub mod unifying; // two rows made equal
