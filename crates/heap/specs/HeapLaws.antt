@@ -39,6 +39,10 @@ row-inside heap k p r = elim (decLt p (length heap)) [
 pub rows-few : (heap : List ℕ) (k p : ℕ) → Whole heap k p → k ≤ length heap
 rows-few heap k p r = omega (arith, row-long r, length-take (span k (drop p (nodes heap))) (drop p (nodes heap)), length-drop p (nodes heap), length-map heap node)
 
+-- and they end within the heap
+pub rows-inside : (heap : List ℕ) (k p : ℕ) → p ≤ length heap → p + length (rows heap k p) ≤ length heap
+rows-inside heap k p l = omega (arith, l, length-take (span k (drop p (nodes heap))) (drop p (nodes heap)), length-drop p (nodes heap), length-map heap node)
+
 module _ (heap : List ℕ) (k p : ℕ) (inside : p < length heap) where
   -- a variable, and k rows behind it
   module _ (is : kindOf (getD heap p 0) ≡ 1) where

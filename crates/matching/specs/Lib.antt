@@ -1,5 +1,5 @@
 -- What two rows come to (Meeting, MeetLaws); pairs of rows that are due (Pairs, PairLaws); the occur check
--- (Occurring); what a trial has bound (Binding); two rows made equal (Unifying, StepLaws).
+-- (Occurring); what a trial has bound (Binding); two rows made equal (Unifying, StepLaws, UnifyLaws).
 pub mod Meeting
 pub mod MeetLaws
 pub mod Pairs
@@ -8,3 +8,4 @@ pub mod Occurring
 pub mod Binding
 pub mod Unifying
 pub mod StepLaws
+pub mod UnifyLaws

@@ -12,7 +12,7 @@ use Rattle.terms.specs.SubstLaws.{apply-append, apply-row}
 use Rattle.terms.specs.Row.{Row, row-end}
 use Rattle.terms.specs.RowLaws.{row-unique}
 use Rattle.heap.specs.Heap.{rows, Whole}
-use Rattle.heap.specs.HeapLaws.{rows-none, first-whole, rest-whole, rows-first}
+use Rattle.heap.specs.HeapLaws.{rows-none, row-inside, rows-inside, first-whole, rest-whole, rows-first}
 use Rattle.matching.specs.Meeting.{Equal}
 use Rattle.matching.specs.Pairs.{level-left, level-right, level-due, Equal-levels, Equal-all, Due, Behind, Settled, Entered}
 use Rattle.matching.specs.declared.pairs.Pairs.{Pairs}
@@ -35,12 +35,17 @@ module _ (heap : List ℕ) (x : Pairs) (some : 0 < x .due) (left : Whole heap (x
   is : x .due ≡ suc d
   is = omega (arith, some)
 
+  at : (r : ℕ) → Whole heap (x .due) r → r < length heap
+  at r w = row-inside heap d r (subst (λ n. Whole heap n r) is w)
+
   pub behind-more : {p′ q′ n : ℕ} → p′ ≡ x .p + length (rows heap 1 (x .p)) → q′ ≡ x .q + length (rows heap 1 (x .q)) → n ≡ d → Behind heap x (record { p = p′; q = q′; due = n; depth = x .depth })
   behind-more {p′} {q′} ep eq en = rw en (record {
     left = rest-whole heap d (x .p) (subst (λ n. Whole heap n (x .p)) is left) ep;
     right = rest-whole heap d (x .q) (subst (λ n. Whole heap n (x .q)) is right) eq;
     left-on = omega (arith, ep);
     right-on = omega (arith, eq);
+    left-inside = omega (arith, ep, rows-inside heap 1 (x .p) (omega (arith, at (x .p) left)));
+    right-inside = omega (arith, eq, rows-inside heap 1 (x .q) (omega (arith, at (x .q) right)));
     due = refl;
     depth = refl;
     just = λ τ proper. subst (λ n. Equal heap τ n (x .p) (x .q) ↔ (Equal heap τ 1 (x .p) (x .q) × Equal heap τ d p′ q′)) (inv is)
@@ -53,6 +58,8 @@ module _ (heap : List ℕ) (x : Pairs) (some : 0 < x .due) (left : Whole heap (x
     right = none (x .q);
     left-on = omega arith;
     right-on = omega arith;
+    left-inside = omega (arith, at (x .p) left);
+    right-inside = omega (arith, at (x .q) right);
     due = omega (arith, e);
     depth = refl;
     just = λ τ proper. (
@@ -68,7 +75,7 @@ pub first-row-whole : (heap : List ℕ) (n r : ℕ) → 0 < n → Whole heap n r
 first-row-whole heap n r l w = first-whole heap (n - 1) r (subst (λ m. Whole heap m r) (omega (arith, l)) w)
 
 -- nothing is due
-none-due : (heap : List ℕ) (τ : Subst) (p q n : ℕ) → n ≡ 0 → Equal heap τ n p q
+pub none-due : (heap : List ℕ) (τ : Subst) (p q n : ℕ) → n ≡ 0 → Equal heap τ n p q
 none-due heap τ p q n e = rw e (ap (apply τ) (rows-none heap p ∙ inv (rows-none heap q)))
 
 -- A level that is done.

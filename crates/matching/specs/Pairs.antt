@@ -40,6 +40,8 @@ pub record Behind (heap : List ℕ) (x r : Pairs) : Type 0 where
   pub right : Whole heap (r .due) (r .q)
   pub left-on : x .p ≤ r .p
   pub right-on : x .q ≤ r .q
+  pub left-inside : r .p ≤ length heap
+  pub right-inside : r .q ≤ length heap
   pub due : r .due ≡ x .due - 1
   pub depth : r .depth ≡ x .depth
   pub just : (τ : Subst) → Proper τ → Equal heap τ (x .due) (x .p) (x .q) ↔ (Equal heap τ 1 (x .p) (x .q) × Equal heap τ (r .due) (r .p) (r .q))

@@ -1,5 +1,5 @@
 -- Two rows of the heap made equal: what is bound for it, and nothing else.
-use Prim.Native.Nat.{ℕ, suc, _%_, _<_, _≤_}
+use Prim.Native.Nat.{ℕ, suc, _+_, _<_, _≤_}
 use native.Mathlib.Omega.{arith}
 use mathlib.Core.Path.{_≡_, refl, sym as inv, ap, _∙_, subst}
 use mathlib.Core.Logic.{_↔_, inl, inr}
@@ -18,6 +18,8 @@ use Rattle.matching.specs.declared.meeting.Meeting.the-variants.{Same, J
 use Rattle.matching.specs.declared.unifying.Trial.{Trial}
 use Rattle.matching.specs.declared.unifying.Step.{Step}
 use Rattle.matching.specs.declared.unifying.Step.the-variants.{Done, Inside, Clash, Tired}
+use Rattle.matching.specs.declared.unifying.Tried.{Tried}
+use Rattle.matching.specs.declared.unifying.Tried.the-variants as Tried
 
 -- more is bound, and the rows at p and q are equal for it: for just those solutions of what was bound before that make them equal
 pub record More (heap cells : List ℕ) (p q : ℕ) (cells′ : List ℕ) : Type 0 where
@@ -50,3 +52,12 @@ Stepped heap cells trail t p q cells′ trail′ (Inside a b k) =
     (cells′ ≡ cells) × (trail′ ≡ trail) × (0 < k) × Whole heap k a × Whole heap k b × ((τ : Subst) → Solves heap cells τ → Equal heap τ 1 p q ↔ Equal heap τ k a b)
 Stepped heap cells trail t p q cells′ trail′ Clash = (cells′ ≡ cells) × (trail′ ≡ trail) × ((τ : Subst) → Solves heap cells τ → ¬ Equal heap τ 1 p q)
 Stepped heap cells trail t p q cells′ trail′ Tired = (cells′ ≡ cells) × (trail′ ≡ trail)
+
+-- how the trail stands where a trial ends
+abbrev pub Trail-kept : List ℕ → List ℕ → Trial → List ℕ → List ℕ → ℕ → Type 0
+Trail-kept cells trail t cells′ trail′ count = ((before : List ℕ) → Trailed before cells trail (t .base) (t .count) → Trailed before cells′ trail′ (t .base) count) × (count ≤ t .count + t .fuel) × (length cells′ ≡ length cells)
+
+abbrev pub Unified : List ℕ → List ℕ → List ℕ → Trial → ℕ → ℕ → List ℕ → List ℕ → Tried → Type 0
+Unified heap cells trail t p q cells′ trail′ (Tried.Fits count left) = More heap cells p q cells′ × Trail-kept cells trail t cells′ trail′ count × (count + left ≤ t .count + t .fuel)
+Unified heap cells trail t p q cells′ trail′ (Tried.Clash count) = Trail-kept cells trail t cells′ trail′ count × ((τ : Subst) → Solves heap cells τ → ¬ Equal heap τ 1 p q)
+Unified heap cells trail t p q cells′ trail′ (Tried.Tired count) = Trail-kept cells trail t cells′ trail′ count

@@ -4,11 +4,15 @@ use crate::meeting::Meeting;
 use crate::meeting::meet;
 use crate::occurring::Look;
 use crate::occurring::occurs;
-ghost use Prim.Native.Nat.{_<_, _≤_};
+use crate::pairs::Pairs;
+use crate::pairs::behind;
+use crate::pairs::entered;
+use crate::pairs::settled;
+ghost use Prim.Native.Nat.{_+_, _<_, _≤_};
 ghost use lib.ListN.{length};
 ghost use Rattle.terms.specs.Subst.{Subst};
 ghost use Rattle.heap.specs.Heap.{Made, Solved, Whole};
-ghost use Rattle.matching.specs.Unifying.{Hung, Stepped};
+ghost use Rattle.matching.specs.Unifying.{Hung, Stepped, Unified};
 
 // How a trial stands: where the clause's variables start, how many goal variables it has bound, and how many nodes it may still visit.
 pub struct Trial {
@@ -73,4 +77,77 @@ fn make(
         Meeting::Hang(v, r) => hang(heap, cells, trail, levels, t, v, r),
         Meeting::Clash => Step::Clash,
     }
+}
+
+// The rows are equal, after so many bindings of goal variables and with so many nodes left; they can't be made equal; or the trial gave up and
+// nothing is known. However it ends, the trail has so many goal variables.
+pub enum Tried {
+    Fits(usize, usize),
+    Clash(usize),
+    Tired(usize),
+}
+
+// The most levels of pairs.
+pub const DEEP: usize = 1024;
+
+// The rows at p and q are made equal.
+pub fn unify(
+    heap: &[u32],
+    cells: &mut [u16],
+    trail: &mut [u16],
+    levels: &mut [u16],
+    stack: &mut [u16],
+    t: Trial,
+    p: usize,
+    q: usize,
+) -> Tried
+    requires { ⌜ Made (now heap) (now cells) × ((θ : Subst) × Solved (now heap) (now cells) θ) × (length (now cells) ≤ 8256) × Whole (now heap) 1 p × Whole (now heap) 1 q ⌝ }
+    requires { ⌜ (t .fuel ≤ 4096) × (8194 ≤ length (now levels)) × (t .count + t .fuel ≤ length (now trail)) × (3075 ≤ length (now stack)) ⌝ }
+    ensures { λ z. ⌜ Unified (now (heap .entry)) (now (cells .entry)) (now (trail .entry)) t p q (now (cells .exit)) (now (trail .exit)) z ⌝ }
+{
+    let base = t.base;
+    let mut count = t.count;
+    let mut fuel = t.fuel;
+    let mut x = Pairs {
+        p,
+        q,
+        due: 1,
+        depth: 0,
+    };
+    while 0 < x.due {
+        let rest = behind(heap, x);
+        let spent = 1 + (rest.p - x.p) + (rest.q - x.q);
+        if fuel < spent {
+            return Tried::Tired(count);
+        }
+        if DEEP <= x.depth {
+            return Tried::Tired(count);
+        }
+        fuel -= spent;
+        match make(
+            heap,
+            cells,
+            trail,
+            levels,
+            Trial { base, count, fuel },
+            x.p,
+            x.q,
+        ) {
+            Step::Done(now, left) => {
+                count = now;
+                fuel = left;
+                x = settled(stack, rest);
+            }
+            Step::Inside(a, b, k) => {
+                x = entered(stack, rest, a, b, k);
+            }
+            Step::Clash => {
+                return Tried::Clash(count);
+            }
+            Step::Tired => {
+                return Tried::Tired(count);
+            }
+        }
+    }
+    Tried::Fits(count, fuel)
 }
