@@ -1,5 +1,6 @@
 -- What two rows come to (Meeting, MeetLaws); pairs of rows that are due (Pairs, PairLaws); the occur check
--- (Occurring); what a trial has bound (Binding); two rows made equal (Unifying, StepLaws, UnifyLaws).
+-- (Occurring); what a trial has bound (Binding); two rows made equal (Unifying, StepLaws, UnifyLaws); where all are free, by a
+-- most general unifier (TrialLaws).
 pub mod Meeting
 pub mod MeetLaws
 pub mod Pairs
@@ -9,3 +10,4 @@ pub mod Binding
 pub mod Unifying
 pub mod StepLaws
 pub mod UnifyLaws
+pub mod TrialLaws
