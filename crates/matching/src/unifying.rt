@@ -138,15 +138,9 @@ pub fn unify(
                 fuel = left;
                 x = settled(stack, rest);
             }
-            Step::Inside(a, b, k) => {
-                x = entered(stack, rest, a, b, k);
-            }
-            Step::Clash => {
-                return Tried::Clash(count);
-            }
-            Step::Tired => {
-                return Tried::Tired(count);
-            }
+            Step::Inside(a, b, k) => x = entered(stack, rest, a, b, k),
+            Step::Clash => return Tried::Clash(count),
+            Step::Tired => return Tried::Tired(count),
         }
     }
     Tried::Fits(count, fuel)
