@@ -1,0 +1,1 @@
+// Flat books and queries, of constants and variables only, as definitions and theorems; no code.
