@@ -1,12 +1,12 @@
 // The entries, each with its line. What each leaves in a lent area is what the entry's contract says.
-use engine::Answer;
-use engine::Stepped;
+use outcomes::Answer;
+use outcomes::Stepped;
 use libc::STDOUT_FILENO;
 use records::Check;
 ghost use mathlib.Core.Path.{_≡_};
 ghost use mathlib.Core.Bool.{true};
 ghost use Prim.Native.Nat.{_<_};
-ghost use Rattle.engine.specs.Outcome.{stepArea, applyArea, runArea, runAnswerArea};
+ghost use Rattle.outcomes.specs.Outcome.{stepArea, applyArea, runArea, runAnswerArea};
 
 fn number(n: u64) {
     io::print_decimal(STDOUT_FILENO, n);
@@ -77,7 +77,7 @@ pub fn step(book: &[u8], query: &[u8], area: &mut [u8]) -> bool
     ensures { λ r. ⌜ r ≡ true ⌝ }
     ensures area { λ _. ⌜ now (area .exit) ≡ stepArea (now (book .entry)) (now (query .entry)) (now (area .entry)) ⌝ }
 {
-    let a = engine::step::step(book, query, area);
+    let a = stepping::step::step(book, query, area);
     stepped(a, area)
 }
 
@@ -85,14 +85,14 @@ pub fn apply(book: &[u8], query: &[u8], clause: u32, area: &mut [u8]) -> bool
     ensures { λ r. ⌜ r ≡ true ⌝ }
     ensures area { λ _. ⌜ now (area .exit) ≡ applyArea (now (book .entry)) (now (query .entry)) clause (now (area .entry)) ⌝ }
 {
-    let a = engine::apply::apply(book, query, clause, area);
+    let a = stepping::apply::apply(book, query, clause, area);
     stepped(a, area)
 }
 
 pub fn pick(book: &[u8], query: &[u8]) -> bool
     ensures { λ r. ⌜ r ≡ true ⌝ }
 {
-    let a = engine::pick::pick(book, query);
+    let a = stepping::pick::pick(book, query);
     number(a.code as u64);
     number(a.place as u64);
     number(a.steps as u64);
@@ -123,7 +123,7 @@ pub fn run(book: &[u8], query: &[u8], budget: u32, area: &mut [u8], answer: &mut
     ensures area { λ _. ⌜ now (area .exit) ≡ runArea (now (book .entry)) (now (query .entry)) budget (now (area .entry)) (now (answer .entry)) ⌝ }
     ensures answer { λ _. ⌜ now (answer .exit) ≡ runAnswerArea (now (book .entry)) (now (query .entry)) budget (now (area .entry)) (now (answer .entry)) ⌝ }
 {
-    let a = engine::run::run(book, query, budget, area, answer);
+    let a = running::run(book, query, budget, area, answer);
     answered(a, area, answer)
 }
 
@@ -132,7 +132,7 @@ pub fn run_for_c(book: &[u8], query: &[u8], budget: u32, area: &mut [u8], answer
     ensures area { λ _. ⌜ now (area .exit) ≡ runArea (now (book .entry)) (now (query .entry)) budget (now (area .entry)) (now (answer .entry)) ⌝ }
     ensures answer { λ _. ⌜ now (answer .exit) ≡ runAnswerArea (now (book .entry)) (now (query .entry)) budget (now (area .entry)) (now (answer .entry)) ⌝ }
 {
-    number(engine::firmware::pitxargole_run(budget, book, query, area, answer));
+    number(engine::pitxargole_run(budget, book, query, area, answer));
     number(sum(area));
     last(sum(answer));
     true
@@ -141,7 +141,7 @@ pub fn run_for_c(book: &[u8], query: &[u8], budget: u32, area: &mut [u8], answer
 pub fn pick_for_c(book: &[u8], query: &[u8]) -> bool
     ensures { λ r. ⌜ r ≡ true ⌝ }
 {
-    last(engine::firmware::pitxargole_pick(book, query));
+    last(engine::pitxargole_pick(book, query));
     true
 }
 
@@ -149,7 +149,7 @@ pub fn apply_for_c(book: &[u8], query: &[u8], clause: u32, area: &mut [u8]) -> b
     ensures { λ r. ⌜ r ≡ true ⌝ }
     ensures area { λ _. ⌜ now (area .exit) ≡ applyArea (now (book .entry)) (now (query .entry)) clause (now (area .entry)) ⌝ }
 {
-    number(engine::firmware::pitxargole_apply(clause, book, query, area));
+    number(engine::pitxargole_apply(clause, book, query, area));
     last(sum(area));
     true
 }

@@ -1,0 +1,2 @@
+-- The figures of a code are small (Smalls).
+pub mod Smalls

@@ -1,0 +1,154 @@
+// The run.
+use outcomes::Answer;
+use outcomes::admit::Admitted;
+use outcomes::admit::admit;
+use areas::open_book;
+use areas::open_row;
+use areas::put_goal;
+use searching::Ended;
+use searching::Query;
+use searching::search;
+ghost use mathlib.Core.Path.{_≡_};
+ghost use Prim.Native.Nat.{_+_, _≤_, min};
+ghost use lib.ListN.{length, take};
+ghost use Rattle.search.specs.Next.{Book, Goal};
+ghost use Rattle.words.specs.Held.{RowIn, BookOn};
+ghost use Rattle.records.specs.Decode.{bookOf};
+ghost use Rattle.areas.specs.Rooms.{Rooms};
+ghost use Rattle.searching.specs.Searching.{Ends};
+ghost use Rattle.outcomes.specs.Outcome.{refused, closing, runAnswer, runArea, runAnswerArea};
+ghost use Rattle.outcomes.specs.Refusals.{Good};
+ghost use Rattle.outcomes.specs.Running.{Leaves};
+ghost use Rattle.running.specs.Ending.{answered};
+
+// "Codes 1 to 19 refuse the input .. and give steps, span, bytes and every count 0."
+fn refused(a: Admitted) -> Answer
+    ensures { λ r. ⌜ r ≡ refused a ⌝ }
+{
+    Answer {
+        code: a.code,
+        place: a.place,
+        steps: 0,
+        span: 0,
+        bytes: 0,
+        answer: 0,
+        furthest: 0,
+        argument: 0,
+    }
+}
+
+fn answered(e: Ended, bytes: usize, answer: usize) -> Answer
+    requires { ⌜ (bytes ≤ 16387) × (answer ≤ 16387) × (e .clause ≤ 512) × (e .argument ≤ 4096) ⌝ }
+    ensures { λ r. ⌜ r ≡ answered e bytes answer ⌝ }
+{
+    Answer {
+        code: e.code,
+        place: 0,
+        steps: e.steps,
+        span: e.span,
+        bytes: bytes as u32,
+        answer: answer as u32,
+        furthest: e.clause as u32,
+        argument: e.argument as u32,
+    }
+}
+
+// The search from a goal, with storage for its steps.
+fn from_goal(book: &[u32], shelf: &[u16], goal: &mut [u32], query: Query) -> Ended
+    requires { ⌜ (8192 ≤ length (now goal)) × (query .words + query .answer ≤ length (now goal)) × ((P : Book) × BookOn (now book) (now shelf) P) × ((q : Goal) × RowIn (take (query .words + query .answer) (now goal)) (query .words) (query .formulas) q q) ⌝ }
+    ensures { λ r. ⌜ ((P : Book) (q : Goal) → BookOn (now (book .entry)) (now (shelf .entry)) P → RowIn (take (query .words + query .answer) (now (goal .entry))) (query .words) (query .formulas) q q → Ends P q (query .budget) (now (goal .exit)) r) ⌝ }
+{
+    let mut saved = [0u32; 4096];
+    let mut pair = [0u32; 8448];
+    let mut rows = [0u16; 30464];
+    let mut out = [0u32; 8192];
+    search(
+        book,
+        shelf,
+        goal,
+        query,
+        &mut saved,
+        &mut pair,
+        &mut rows,
+        &mut out,
+    )
+}
+
+// "A run with code 20 to 24 leaves the final goal's image at the front. Past the image the area keeps its bytes." "The goal area and the answer
+// area hold the goal and the instance at the closing state" (document 02, C-11).
+fn from_bytes(
+    book: &[u8],
+    query: &[u8],
+    budget: u32,
+    area: &mut [u8],
+    answer: &mut [u8],
+    words: &mut [u32],
+    shelf: &mut [u16],
+    goal: &mut [u32],
+) -> Answer
+    requires { ⌜ Good (now book) (now query) (min (length (now area)) (length (now answer))) ⌝ }
+    requires { ⌜ Rooms (now words) (now shelf) × (8192 ≤ length (now goal)) ⌝ }
+    ensures { λ r. ⌜ Leaves (bookOf (now (book .entry))) (closing (now (book .entry)) (now (query .entry)) budget) (now (area .entry)) (now (answer .entry)) r (now (area .exit)) (now (answer .exit)) ⌝ }
+{
+    let clauses = open_book(book, words, shelf);
+    let opened = open_row(query, goal);
+    let used = 3 * clauses + 3;
+    let e = from_goal(
+        words,
+        &shelf[..used],
+        goal,
+        Query {
+            words: opened.words,
+            formulas: opened.formulas,
+            answer: opened.answer,
+            budget,
+        },
+    );
+    let n = e.words;
+    let m = n + e.answer;
+    let bytes = put_goal(&goal[..n], e.formulas, area);
+    let said = put_goal(&goal[n..m], opened.formulas, answer);
+    answered(e, bytes, said)
+}
+
+// The same with storage of its own.
+fn from_good(book: &[u8], query: &[u8], budget: u32, area: &mut [u8], answer: &mut [u8]) -> Answer
+    requires { ⌜ Good (now book) (now query) (min (length (now area)) (length (now answer))) ⌝ }
+    ensures { λ r. ⌜ Leaves (bookOf (now (book .entry))) (closing (now (book .entry)) (now (query .entry)) budget) (now (area .entry)) (now (answer .entry)) r (now (area .exit)) (now (answer .exit)) ⌝ }
+{
+    let mut words = [0u32; 10922];
+    let mut shelf = [0u16; 1539];
+    let mut goal = [0u32; 8192];
+    from_bytes(
+        book,
+        query,
+        budget,
+        area,
+        answer,
+        &mut words,
+        &mut shelf,
+        &mut goal,
+    )
+}
+
+fn shorter(a: usize, b: usize) -> usize
+    ensures { λ r. ⌜ r ≡ min a b ⌝ }
+{
+    if b < a {
+        return b;
+    }
+    a
+}
+
+// "Run a query by a book, with a budget and a goal area", and with an answer area.
+pub fn run(book: &[u8], query: &[u8], budget: u32, area: &mut [u8], answer: &mut [u8]) -> Answer
+    ensures said { λ r. ⌜ r ≡ runAnswer (now (book .entry)) (now (query .entry)) budget (now (area .entry)) (now (answer .entry)) ⌝ }
+    ensures area { λ _. ⌜ now (area .exit) ≡ runArea (now (book .entry)) (now (query .entry)) budget (now (area .entry)) (now (answer .entry)) ⌝ }
+    ensures answer { λ _. ⌜ now (answer .exit) ≡ runAnswerArea (now (book .entry)) (now (query .entry)) budget (now (area .entry)) (now (answer .entry)) ⌝ }
+{
+    let a = admit(book, query, shorter(area.len(), answer.len()));
+    if a.code == 0 {
+        return from_good(book, query, budget, area, answer);
+    }
+    refused(a)
+}
