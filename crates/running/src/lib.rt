@@ -1,10 +1,10 @@
 // The run.
-use outcomes::Answer;
-use outcomes::admit::Admitted;
-use outcomes::admit::admit;
 use areas::open_book;
 use areas::open_row;
 use areas::put_goal;
+use outcomes::Answer;
+use outcomes::admit::Admitted;
+use outcomes::admit::admit;
 use searching::Ended;
 use searching::Query;
 use searching::search;

@@ -1,11 +1,11 @@
 // The apply call (document 02, C-16): the next goal by a clause that the caller names. Refusals, "after the input codes: 20 empty goal, 32 no such
 // clause, 33 head doesn't unify, 24; in this order".
-use outcomes::Stepped;
-use outcomes::admit::Admitted;
-use outcomes::admit::admit;
 use areas::open_book;
 use areas::open_query;
 use areas::put_goal;
+use outcomes::Stepped;
+use outcomes::admit::Admitted;
+use outcomes::admit::admit;
 use resolve::Move;
 use resolve::apply_number;
 use words::shelf::clauses;

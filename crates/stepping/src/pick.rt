@@ -1,10 +1,10 @@
 // The pick (document 02, C-16): the clause that the single step would take. "It doesn't look at the next goal's size and never writes; its
 // steps are 0."
+use areas::open_book;
+use areas::open_query;
 use outcomes::Picked;
 use outcomes::admit::Admitted;
 use outcomes::admit::admit;
-use areas::open_book;
-use areas::open_query;
 use resolve::Choice;
 use resolve::choose;
 ghost use mathlib.Core.Path.{_≡_};

@@ -1,7 +1,7 @@
 // The entries, each with its line. What each leaves in a lent area is what the entry's contract says.
+use libc::STDOUT_FILENO;
 use outcomes::Answer;
 use outcomes::Stepped;
-use libc::STDOUT_FILENO;
 use records::Check;
 ghost use mathlib.Core.Path.{_≡_};
 ghost use mathlib.Core.Bool.{true};
