@@ -23,11 +23,11 @@ use Rattle.search.specs.Resolution.{Atomics, Atomic-clauses}
 use Rattle.search.specs.NextLaws.{next-iff, resolved-every}
 use Rattle.search.specs.PathLaws.{path-holds, step-goal, path-numbered}
 use Rattle.words.specs.Flat.{flat, flat-size}
-use Rattle.records.specs.Reading.{nextUnused}
-use Rattle.records.specs.Format.{Terms, terms-none, terms-var, terms-constant, terms-compound, IsFormula, formula, AreFormulas, Below, GoodClauses, GoodBook, GoodGoal}
-use Rattle.records.proofs.Taken.{next-unused-small}
-use Rattle.records.proofs.Numbering.{Ordered, ordered}
-use Rattle.records.proofs.Premises.{formula-row, book-clauses}
+use Rattle.format.specs.Reading.{nextUnused}
+use Rattle.format.specs.Format.{Terms, terms-none, terms-var, terms-constant, terms-compound, IsFormula, formula, AreFormulas, Below, GoodClauses, GoodBook, GoodGoal}
+use Rattle.format.proofs.Taken.{next-unused-small}
+use Rattle.format.proofs.Numbering.{Ordered, ordered}
+use Rattle.format.proofs.Premises.{formula-row, book-clauses}
 use Rattle.areas.specs.SymbolLaws.{symbols-rename, symbols-apply, general-symbols}
 
 -- the symbols of terms: no predicate, and in the ranges of the table of records

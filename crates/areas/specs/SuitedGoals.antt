@@ -16,10 +16,10 @@ use Rattle.search.specs.NextLaws.{next-iff, resolved-every}
 use Rattle.search.specs.PathLaws.{path-holds, step-goal}
 use Rattle.search.specs.Known.{symbol-of, Known}
 use Rattle.words.specs.Flat.{flat}
-use Rattle.records.specs.Format.{GoodClauses, GoodBook, GoodGoal}
-use Rattle.records.specs.Arities.{nodeUses, goalUses, bookUses, Used, Suits, nothing-met, recall}
-use Rattle.records.specs.ArityLaws.{used-left, used-right, used-append, remembered}
-use Rattle.records.proofs.Premises.{book-clauses}
+use Rattle.format.specs.Format.{GoodClauses, GoodBook, GoodGoal}
+use Rattle.format.specs.Arities.{nodeUses, goalUses, bookUses, Used, Suits, nothing-met, recall}
+use Rattle.format.specs.ArityLaws.{used-left, used-right, used-append, remembered}
+use Rattle.format.proofs.Premises.{book-clauses}
 use Rattle.areas.specs.SymbolLaws.{symbols-append, symbols-behind, symbols-rename, symbols-apply}
 use Rattle.areas.specs.GoodGoals.{TermSymbol, AllTabled, formulas-tabled, tabled-rename, tabled-formulas, unifier-tabled, first-tabled, next-tabled}
 

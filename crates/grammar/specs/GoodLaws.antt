@@ -10,14 +10,14 @@ use Rattle.search.specs.Room.{nodes}
 use Rattle.words.specs.Flat.{flat, flat-size}
 use Rattle.words.specs.Word.{wordsOf}
 use Rattle.words.specs.PackLaws.{words-length}
-use Rattle.records.specs.Words.{bookWords}
-use Rattle.records.specs.Reading.{bookVerdict}
-use Rattle.records.specs.Format as Format
-use Rattle.records.specs.Arities.{bookUses, OneArity}
-use Rattle.records.specs.Format.{terms-none, terms-var, terms-constant, terms-compound, formula, IsFormula, AreFormulas, Fitting, GoodClause, GoodClauses, GoodBook, GoodGoal, encodeBook}
-use Rattle.records.proofs.Lengths.{words-few}
-use Rattle.records.proofs.Numbering as Numbering
-use Rattle.records.proofs.Meaning.{good, book-written}
+use Rattle.format.specs.Words.{bookWords}
+use Rattle.format.specs.Reading.{bookVerdict}
+use Rattle.format.specs.Format as Format
+use Rattle.format.specs.Arities.{bookUses, OneArity}
+use Rattle.format.specs.Format.{terms-none, terms-var, terms-constant, terms-compound, formula, IsFormula, AreFormulas, Fitting, GoodClause, GoodClauses, GoodBook, GoodGoal, encodeBook}
+use Rattle.format.proofs.Lengths.{words-few}
+use Rattle.format.proofs.Numbering as Numbering
+use Rattle.format.proofs.Meaning.{good, book-written}
 use Rattle.grammar.specs.Syntax.{Terms, none, variable-then, name-then, Formula, Rule}
 use Rattle.grammar.specs.Names.{Sort, Constant, Compound, Predicate, Spot, count, called, spots-then, formula-spots, formulas-spots, rule-spots, text-spots}
 use Rattle.grammar.specs.Names.{place, variable-number, with-variable, variables-after, symbol-of, numbered, numbered-all, clause, names, book}

@@ -10,9 +10,9 @@ use lib.ListN.{length, length-append}
 use Rattle.terms.specs.Node.{Expr}
 use Rattle.terms.specs.Cases.{cases}
 use Rattle.words.specs.Flat.{flat}
-use Rattle.records.specs.Reading.{nextUnused}
-use Rattle.records.specs.Format.{Below}
-use Rattle.records.proofs.Numbering.{Ordered, unused-same, unused-other}
+use Rattle.format.specs.Reading.{nextUnused}
+use Rattle.format.specs.Format.{Below}
+use Rattle.format.proofs.Numbering.{Ordered, unused-same, unused-other}
 use Rattle.grammar.specs.Syntax.{Formula}
 use Rattle.grammar.specs.Names.{Sort, Spot, variable-spot, symbol-spot, formula-spots, formulas-spots, same-name, place, within, grow, is-sort, names-after}
 use Rattle.grammar.specs.Names.{lone, variable-number, with-variable, variables-after, numbered, numbered-all}

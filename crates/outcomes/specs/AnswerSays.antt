@@ -17,8 +17,8 @@ use Rattle.search.specs.AnswerLaws.{answered-runs}
 use Rattle.search.specs.AnswerRuns.{answers-goal}
 use Rattle.search.specs.Derivation.{Derivation, Follows}
 use Rattle.search.specs.FollowsLaws.{derivation-answer, answer-instance, solved-follows}
-use Rattle.records.specs.Format.{encodeGoal, Bytes}
-use Rattle.records.specs.Decode.{bookOf, goalOf}
+use Rattle.format.specs.Format.{encodeGoal, Bytes}
+use Rattle.format.specs.Decode.{bookOf, goalOf}
 use Rattle.areas.specs.GoodGoals.{book-atomic, goal-atomics}
 use Rattle.outcomes.specs.declared.Answer.{Answer}
 use Rattle.outcomes.specs.Outcome.{closing, runAnswer, runAnswerArea}

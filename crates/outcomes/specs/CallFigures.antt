@@ -16,9 +16,9 @@ use Rattle.search.specs.Known.{stuck-code}
 use Rattle.search.specs.Furthest.{no-figures}
 use Rattle.search.specs.Single.{Single, not-taken, taken, if-fits}
 use Rattle.search.specs.Pick.{picked, applied, apply-by}
-use Rattle.records.specs.Format.{Bytes}
-use Rattle.records.specs.Decode.{bookOf, goalOf}
-use Rattle.records.proofs.Premises.{goal-premises}
+use Rattle.format.specs.Format.{Bytes}
+use Rattle.format.specs.Decode.{bookOf, goalOf}
+use Rattle.format.proofs.Premises.{goal-premises}
 use Rattle.outcomes.specs.declared.Picked.{Picked}
 use Rattle.outcomes.specs.declared.Stepped.{Stepped}
 use Rattle.outcomes.specs.Outcome.{refusal, stepped, leaves, pickAnswer, applyAnswer, applyArea}

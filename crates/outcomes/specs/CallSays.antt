@@ -21,9 +21,9 @@ use Rattle.search.specs.Single as Single
 use Rattle.search.specs.Pick.{Pick, no-pick, pick, Picks, stuck-22, unknown-26, chosen-25, apply-by, Applies, absent-32, apart-33, full-24, taken-25}
 use Rattle.search.specs.Pick as Pick
 use Rattle.search.specs.PickLaws.{pick-iff, apply-iff}
-use Rattle.records.specs.Format.{encodeGoal, Bytes}
-use Rattle.records.specs.Decode.{bookOf, goalOf}
-use Rattle.records.proofs.Premises.{book-clauses, goal-premises}
+use Rattle.format.specs.Format.{encodeGoal, Bytes}
+use Rattle.format.specs.Decode.{bookOf, goalOf}
+use Rattle.format.proofs.Premises.{book-clauses, goal-premises}
 use Rattle.outcomes.specs.declared.Picked.{Picked}
 use Rattle.outcomes.specs.declared.Stepped.{Stepped}
 use Rattle.outcomes.specs.Outcome.{refusal, stepped, leaves, pickedAs, pickSaid, pickAnswer, applyAnswer, applyArea}

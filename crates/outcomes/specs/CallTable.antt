@@ -10,9 +10,9 @@ use Rattle.search.specs.Room.{fits}
 use Rattle.search.specs.Known.{alike?, known?, stuck-code}
 use Rattle.search.specs.Furthest.{no-figures, furthest, figures}
 use Rattle.search.specs.Pick.{pick, apply-by}
-use Rattle.records.specs.Reading.{allowed, bodyLength, numberAt, recordAt, inRange, inSize, inOrder, nextUnused, after, judgeRecord, judge, whole, finish, walk, metFrom, verdict, bookVerdict, queryVerdict}
-use Rattle.records.specs.Arities.{meet, keeps}
-use Rattle.records.specs.Decode.{bookOf, goalOf}
+use Rattle.format.specs.Reading.{allowed, bodyLength, numberAt, recordAt, inRange, inSize, inOrder, nextUnused, after, judgeRecord, judge, whole, finish, walk, metFrom, verdict, bookVerdict, queryVerdict}
+use Rattle.format.specs.Arities.{meet, keeps}
+use Rattle.format.specs.Decode.{bookOf, goalOf}
 use Rattle.outcomes.specs.declared.Picked.{Picked}
 use Rattle.outcomes.specs.declared.Stepped.{Stepped}
 use Rattle.outcomes.specs.declared.admit.Admitted.{Admitted}

@@ -16,7 +16,7 @@ use Rattle.search.specs.Furthest.{Figures, no-figures, figures, figures-other}
 use Rattle.search.specs.Single.{Single, not-taken, if-fits, step}
 use Rattle.search.specs.Pick.{Pick, pick, applied, apply-by, then}
 use Rattle.search.specs.PickLaws.{two-calls}
-use Rattle.records.specs.Decode.{bookOf, goalOf}
+use Rattle.format.specs.Decode.{bookOf, goalOf}
 use Rattle.outcomes.specs.declared.admit.Admitted.{Admitted}
 use Rattle.outcomes.specs.declared.Picked.{Picked}
 use Rattle.outcomes.specs.declared.Stepped.{Stepped}

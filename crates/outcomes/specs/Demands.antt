@@ -18,9 +18,9 @@ use Rattle.search.specs.AnswerLaws.{answered-runs}
 use Rattle.search.specs.AnswerRuns.{answered-run}
 use Rattle.search.specs.AnswerTold.{Says-with}
 use Rattle.search.specs.AnswerTheorem.{loop-means-answered, loop-in-time-answered, answered-says}
-use Rattle.records.specs.Format.{encodeGoal, Bytes}
-use Rattle.records.specs.Decode.{bookOf, goalOf}
-use Rattle.records.proofs.Premises.{book-clauses, goal-premises}
+use Rattle.format.specs.Format.{encodeGoal, Bytes}
+use Rattle.format.specs.Decode.{bookOf, goalOf}
+use Rattle.format.proofs.Premises.{book-clauses, goal-premises}
 use Rattle.outcomes.specs.declared.Answer.{Answer}
 use Rattle.outcomes.specs.Outcome.{refusal, over, room, ended, closing, runAnswer, runArea, runAnswerArea}
 use Rattle.outcomes.specs.Running.{answer-taken, area-taken, answer-area-taken}

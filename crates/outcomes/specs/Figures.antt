@@ -17,13 +17,13 @@ use Rattle.search.specs.Answer.{Answered, answered, Ends, as-before, code-27, A
 use Rattle.search.specs.AnswerLaws.{answered-runs}
 use Rattle.search.specs.AnswerRuns.{answers-goal}
 use Rattle.words.specs.Flat.{flat, flat-size}
-use Rattle.records.specs.Reading.{bookVerdict, queryVerdict}
-use Rattle.records.specs.Format.{encodeGoal, Bytes}
-use Rattle.records.specs.Decode.{bookOf, goalOf}
-use Rattle.records.proofs.Codes.{Coded, book-coded, query-coded}
-use Rattle.records.proofs.Lengths.{nodes-short}
-use Rattle.records.proofs.Decoding.{goalOf-good}
-use Rattle.records.proofs.Premises.{goal-premises}
+use Rattle.format.specs.Reading.{bookVerdict, queryVerdict}
+use Rattle.format.specs.Format.{encodeGoal, Bytes}
+use Rattle.format.specs.Decode.{bookOf, goalOf}
+use Rattle.format.proofs.Codes.{Coded, book-coded, query-coded}
+use Rattle.format.proofs.Lengths.{nodes-short}
+use Rattle.format.proofs.Decoding.{goalOf-good}
+use Rattle.format.proofs.Premises.{goal-premises}
 use Rattle.areas.proofs.Places.{book-place, query-place}
 use Rattle.outcomes.specs.declared.Answer.{Answer}
 use Rattle.outcomes.specs.declared.admit.Admitted.{Admitted}

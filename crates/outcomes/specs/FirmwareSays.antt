@@ -6,7 +6,7 @@ use borrow.Author.Tests.{lt-ltb, le-ltb, eq-eqb, ne-eqb}
 use mathlib.Core.Path.{_≡_, ap}
 use mathlib.Core.List.{List}
 use Rattle.terms.specs.When.{_⇒_∣_}
-use Rattle.records.specs.Format.{Bytes}
+use Rattle.format.specs.Format.{Bytes}
 use Rattle.outcomes.specs.declared.Answer.{Answer}
 use Rattle.outcomes.specs.declared.Picked.{Picked}
 use Rattle.outcomes.specs.declared.Stepped.{Stepped}

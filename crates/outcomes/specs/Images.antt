@@ -13,13 +13,13 @@ use Rattle.search.specs.AnswerToldLaws.{answered-told}
 use Rattle.search.specs.Single.{Single, step}
 use Rattle.search.specs.Furthest.{no-figures}
 use Rattle.search.specs.Pick.{pick, apply-by}
-use Rattle.records.specs.declared.Check.{Check}
-use Rattle.records.specs.Format.{GoodBook, GoodGoal, encodeBook, encodeGoal, Bytes}
-use Rattle.records.specs.Decode.{bookOf, goalOf}
-use Rattle.records.specs.Arities.{Suits}
-use Rattle.records.proofs.Meaning.{query-book, query-written}
-use Rattle.records.proofs.Decoding.{bookOf-good, goalOf-good, goalOf-suits, bookOf-image, goalOf-image}
-use Rattle.records.proofs.Premises.{book-clauses, goal-premises}
+use Rattle.format.specs.declared.Check.{Check}
+use Rattle.format.specs.Format.{GoodBook, GoodGoal, encodeBook, encodeGoal, Bytes}
+use Rattle.format.specs.Decode.{bookOf, goalOf}
+use Rattle.format.specs.Arities.{Suits}
+use Rattle.format.proofs.Meaning.{query-book, query-written}
+use Rattle.format.proofs.Decoding.{bookOf-good, goalOf-good, goalOf-suits, bookOf-image, goalOf-image}
+use Rattle.format.proofs.Premises.{book-clauses, goal-premises}
 use Rattle.outcomes.specs.declared.admit.Admitted.{Admitted}
 use Rattle.outcomes.specs.Outcome.{refusal, over, room, ended, runAnswer, runArea, runAnswerArea, stepped, stepSaid, leaves, stepAnswer, stepArea, pickSaid, pickAnswer, applyAnswer, applyArea}
 use Rattle.outcomes.specs.Refusals.{query-decides, Good, not-refused}

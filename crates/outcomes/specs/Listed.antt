@@ -15,9 +15,9 @@ use Rattle.search.specs.Known.{knows?, stuck-code, stuck-known, stuck-unknown}
 use Rattle.search.specs.Single.{if-fits, single}
 use Rattle.search.specs.Furthest.{no-figures}
 use Rattle.search.specs.Pick.{picked, applied, apply-by}
-use Rattle.records.specs.Reading.{bookVerdict, queryVerdict}
-use Rattle.records.specs.Decode.{bookOf, goalOf}
-use Rattle.records.proofs.Codes.{Coded, book-coded, query-coded}
+use Rattle.format.specs.Reading.{bookVerdict, queryVerdict}
+use Rattle.format.specs.Decode.{bookOf, goalOf}
+use Rattle.format.proofs.Codes.{Coded, book-coded, query-coded}
 use Rattle.outcomes.specs.declared.admit.Admitted.{Admitted}
 use Rattle.outcomes.specs.Outcome.{refusal, room, runAnswer, stepped, stepAnswer, pickAnswer, applyAnswer}
 use Rattle.outcomes.specs.Refusals.{area-short, book-decides, query-decides}

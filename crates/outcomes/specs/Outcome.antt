@@ -11,9 +11,9 @@ use Rattle.search.specs.Furthest.{Figures, no-figures, figures}
 use Rattle.search.specs.Answer.{Answered, answered}
 use Rattle.search.specs.Single.{Single, step}
 use Rattle.search.specs.Pick.{Pick, pick, apply-by}
-use Rattle.records.specs.Reading.{queryVerdict}
-use Rattle.records.specs.Format.{encodeGoal}
-use Rattle.records.specs.Decode.{bookOf, goalOf}
+use Rattle.format.specs.Reading.{queryVerdict}
+use Rattle.format.specs.Format.{encodeGoal}
+use Rattle.format.specs.Decode.{bookOf, goalOf}
 use Rattle.outcomes.specs.declared.admit.Admitted.{Admitted}
 use Rattle.outcomes.specs.declared.Answer.{Answer}
 use Rattle.outcomes.specs.declared.Picked.{Picked}

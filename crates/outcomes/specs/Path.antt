@@ -18,14 +18,14 @@ use Rattle.search.specs.TestLaws.{big-iff}
 use Rattle.search.specs.Furthest.{Figures}
 use Rattle.search.specs.Resolution.{Derived}
 use Rattle.search.specs.ResolutionLaws.{derived-iff}
-use Rattle.records.specs.declared.Check.{Check}
-use Rattle.records.specs.Reading.{bookVerdict, queryVerdict}
-use Rattle.records.specs.Arities.{Suits}
-use Rattle.records.specs.Format.{GoodBook, GoodGoal, encodeBook, encodeGoal, Bytes}
-use Rattle.records.specs.Decode.{bookOf, goalOf}
-use Rattle.records.proofs.Decoding.{bookOf-good, goalOf-good, goalOf-suits, goalOf-image}
-use Rattle.records.proofs.Meaning.{query-written}
-use Rattle.records.proofs.Premises.{book-clauses, goal-premises}
+use Rattle.format.specs.declared.Check.{Check}
+use Rattle.format.specs.Reading.{bookVerdict, queryVerdict}
+use Rattle.format.specs.Arities.{Suits}
+use Rattle.format.specs.Format.{GoodBook, GoodGoal, encodeBook, encodeGoal, Bytes}
+use Rattle.format.specs.Decode.{bookOf, goalOf}
+use Rattle.format.proofs.Decoding.{bookOf-good, goalOf-good, goalOf-suits, goalOf-image}
+use Rattle.format.proofs.Meaning.{query-written}
+use Rattle.format.proofs.Premises.{book-clauses, goal-premises}
 use Rattle.areas.specs.GoodGoals.{book-atomic, goal-atomics}
 use Rattle.outcomes.specs.declared.Stepped.{Stepped}
 use Rattle.outcomes.specs.Outcome.{room, stepped, stepSaid, leaves, stepAnswer, stepArea, runAnswer, runArea}

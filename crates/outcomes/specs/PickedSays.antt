@@ -8,8 +8,8 @@ use Rattle.terms.specs.Node.{Expr}
 use Rattle.search.specs.Next.{Clause, Book, Goal, Meets, First, Resolved, Next, clause-at}
 use Rattle.search.specs.Room.{nodes}
 use Rattle.search.specs.Told.{Too-big}
-use Rattle.records.specs.Format.{encodeGoal, Bytes}
-use Rattle.records.specs.Decode.{bookOf, goalOf}
+use Rattle.format.specs.Format.{encodeGoal, Bytes}
+use Rattle.format.specs.Decode.{bookOf, goalOf}
 use Rattle.outcomes.specs.declared.Picked.{Picked}
 use Rattle.outcomes.specs.declared.Stepped.{Stepped}
 use Rattle.outcomes.specs.declared.admit.Admitted.{Admitted}

@@ -6,14 +6,14 @@ use native.Mathlib.Decide.{decLt, ℕ-discrete}
 use mathlib.Core.Path.{_≡_, refl, sym as inv, ap, _∙_, subst}
 use mathlib.Core.List.{List, []}
 use lib.ListN.{length}
-use Rattle.records.specs.declared.state.Form.the-variants.{Book, Query}
-use Rattle.records.specs.Reading.{bookVerdict, queryVerdict}
-use Rattle.records.specs.Format.{Bytes}
-use Rattle.records.specs.Faulty.{Faulty, Good}
-use Rattle.records.specs.Arities.{bookUses}
-use Rattle.records.specs.Decode.{bookOf}
-use Rattle.records.proofs.Meaning.{one-none, book-good}
-use Rattle.records.proofs.Refusals.{refused-iff, query-refused-iff}
+use Rattle.format.specs.declared.Form.the-variants.{Book, Query}
+use Rattle.format.specs.Reading.{bookVerdict, queryVerdict}
+use Rattle.format.specs.Format.{Bytes}
+use Rattle.format.specs.Faulty.{Faulty, Good}
+use Rattle.format.specs.Arities.{bookUses}
+use Rattle.format.specs.Decode.{bookOf}
+use Rattle.format.proofs.Meaning.{one-none, book-good}
+use Rattle.format.proofs.Refusals.{refused-iff, query-refused-iff}
 use Rattle.outcomes.specs.declared.Answer.{Answer}
 use Rattle.outcomes.specs.declared.Stepped.{Stepped}
 use Rattle.outcomes.specs.declared.admit.Admitted.{Admitted}

@@ -5,8 +5,8 @@ use native.Mathlib.Decide.{decLt}
 use borrow.Author.Tests.{lt-ltb, le-ltb, ne-eqb}
 use mathlib.Core.Path.{_≡_, sym as inv, ap, _∙_}
 use mathlib.Core.List.{List}
-use Rattle.records.specs.Reading.{bookVerdict, queryVerdict, Askable}
-use Rattle.records.proofs.Meaning.{query-book}
+use Rattle.format.specs.Reading.{bookVerdict, queryVerdict, Askable}
+use Rattle.format.proofs.Meaning.{query-book}
 use Rattle.outcomes.specs.declared.admit.Admitted.{Admitted}
 use Rattle.outcomes.specs.Outcome.{refusal}
 

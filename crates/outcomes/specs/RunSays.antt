@@ -28,9 +28,9 @@ use Rattle.search.specs.CarryLaws.{carries-iff}
 use Rattle.search.specs.AnswerTold.{Next-with, Too-long, Told-with, Says-with, says-20-to-26, full-27}
 use Rattle.search.specs.AnswerToldLaws.{answered-told}
 use Rattle.search.specs.AnswerTheorem.{answered-says}
-use Rattle.records.specs.Format.{encodeGoal, Bytes}
-use Rattle.records.specs.Decode.{bookOf, goalOf}
-use Rattle.records.proofs.Premises.{book-clauses, goal-premises}
+use Rattle.format.specs.Format.{encodeGoal, Bytes}
+use Rattle.format.specs.Decode.{bookOf, goalOf}
+use Rattle.format.proofs.Premises.{book-clauses, goal-premises}
 use Rattle.outcomes.specs.declared.Answer.{Answer}
 use Rattle.outcomes.specs.Outcome.{refusal, over, room, ended, closing, runAnswer, runArea, runAnswerArea}
 use Rattle.outcomes.specs.Running.{answer-taken, area-taken, answer-area-taken}

@@ -5,8 +5,8 @@ use mathlib.Core.Path.{_≡_}
 use mathlib.Core.List.{List}
 use Rattle.search.specs.Next.{Book}
 use Rattle.search.specs.Answer.{Answered}
-use Rattle.records.specs.Format.{encodeGoal}
-use Rattle.records.specs.Decode.{bookOf}
+use Rattle.format.specs.Format.{encodeGoal}
+use Rattle.format.specs.Decode.{bookOf}
 use Rattle.outcomes.specs.declared.Answer.{Answer}
 use Rattle.outcomes.specs.Outcome.{refusal, over, room, refused, ended, closing, runAnswer, runArea, runAnswerArea}
 

@@ -20,9 +20,9 @@ use Rattle.search.specs.Told.{Too-big}
 use Rattle.search.specs.TestLaws.{big-iff}
 use Rattle.search.specs.Single.{Single, not-taken, taken, step, Steps, solved-20, stuck-22, unknown-26, full-24, taken-25}
 use Rattle.search.specs.SingleLaws.{step-iff}
-use Rattle.records.specs.Format.{encodeGoal, Bytes}
-use Rattle.records.specs.Decode.{bookOf, goalOf}
-use Rattle.records.proofs.Premises.{book-clauses, goal-premises}
+use Rattle.format.specs.Format.{encodeGoal, Bytes}
+use Rattle.format.specs.Decode.{bookOf, goalOf}
+use Rattle.format.proofs.Premises.{book-clauses, goal-premises}
 use Rattle.outcomes.specs.declared.Stepped.{Stepped}
 use Rattle.outcomes.specs.Outcome.{refusal, stepped, stepSaid, leaves, stepAnswer, stepArea}
 use Rattle.outcomes.specs.Stepping.{answer-refused, answer-taken, area-taken}

@@ -10,11 +10,11 @@ use Rattle.search.specs.Room.{fits}
 use Rattle.search.specs.Known.{alike?, known?, stuck-code}
 use Rattle.search.specs.Furthest.{furthest, figures}
 use Rattle.search.specs.Single.{step}
-use Rattle.records.specs.Reading.{allowed, bodyLength, numberAt, recordAt, inRange, inSize, inOrder, nextUnused, after, judgeRecord, judge, whole, finish, walk, metFrom, verdict, bookVerdict, queryVerdict}
-use Rattle.records.specs.Arities.{meet, keeps}
-use Rattle.records.specs.Cases.{Case, cases}
-use Rattle.records.specs.Format.{encodeGoal}
-use Rattle.records.specs.Decode.{bookOf, goalOf}
+use Rattle.format.specs.Reading.{allowed, bodyLength, numberAt, recordAt, inRange, inSize, inOrder, nextUnused, after, judgeRecord, judge, whole, finish, walk, metFrom, verdict, bookVerdict, queryVerdict}
+use Rattle.format.specs.Arities.{meet, keeps}
+use Rattle.format.specs.Cases.{Case, cases}
+use Rattle.format.specs.Format.{encodeGoal}
+use Rattle.format.specs.Decode.{bookOf, goalOf}
 use Rattle.outcomes.specs.declared.Stepped.{Stepped}
 use Rattle.outcomes.specs.declared.admit.Admitted.{Admitted}
 use Rattle.outcomes.specs.Outcome as Outcome

@@ -7,9 +7,9 @@ use lib.ListN.{length, drop}
 use Rattle.search.specs.Next.{Goal}
 use Rattle.search.specs.Furthest.{Figures, no-figures}
 use Rattle.search.specs.Single.{Single, not-taken, taken, step}
-use Rattle.records.specs.Format.{encodeGoal}
-use Rattle.records.specs.Decode.{bookOf, goalOf}
-use Rattle.records.specs.Storage.{Written}
+use Rattle.format.specs.Format.{encodeGoal}
+use Rattle.format.specs.Decode.{bookOf, goalOf}
+use Rattle.storage.specs.Storage.{Written}
 use Rattle.outcomes.specs.declared.Stepped.{Stepped}
 use Rattle.outcomes.specs.Outcome.{refusal, stepRefused, stepped, stepSaid, leaves, singleAnswer, singleArea, stepAnswer, stepArea}
 

@@ -18,8 +18,8 @@ use Rattle.search.specs.Run.{goal-at, Roomy}
 use Rattle.search.specs.Answer.{answered}
 use Rattle.search.specs.AnswerLaws.{answered-runs}
 use Rattle.search.specs.AnswerRuns.{answers-goal}
-use Rattle.records.specs.Format.{GoodBook, GoodGoal, encodeBook, encodeGoal}
-use Rattle.records.specs.Arities.{Suits}
+use Rattle.format.specs.Format.{GoodBook, GoodGoal, encodeBook, encodeGoal}
+use Rattle.format.specs.Arities.{Suits}
 use Rattle.areas.specs.GoodGoals.{path-good}
 use Rattle.areas.specs.SuitedGoals.{path-suits}
 use Rattle.outcomes.specs.declared.Answer.{Answer}

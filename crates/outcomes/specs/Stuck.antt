@@ -14,7 +14,7 @@ use Rattle.search.specs.Known.{symbol-of, Alike, Known}
 use Rattle.search.specs.KnownLaws.{Atom-heads}
 use Rattle.search.specs.Furthest.{Figures, Furthest, furthest}
 use Rattle.search.specs.FurthestLaws.{furthest-says, furthest-one}
-use Rattle.records.specs.Format.{IsFormula, formula, GoodClauses, GoodBook}
+use Rattle.format.specs.Format.{IsFormula, formula, GoodClauses, GoodBook}
 
 formula-atom : {f : Expr} → IsFormula f → Atom f
 formula-atom (formula w q t) = atom

@@ -9,9 +9,9 @@ use mathlib.Core.Option.{Option, none, some}
 use mathlib.Core.List.{List, [], _∷_, map}
 use lib.ListN.{length}
 use lib.Dec.{ltb}
-use Rattle.records.specs.declared.Check.{Check}
-use Rattle.records.specs.Reading.{bookVerdict}
-use Rattle.records.specs.Cases.{Case, cases, cases-answered}
+use Rattle.format.specs.declared.Check.{Check}
+use Rattle.format.specs.Reading.{bookVerdict}
+use Rattle.format.specs.Cases.{Case, cases, cases-answered}
 use Rattle.outcomes.specs.Outcome.{refusal, over}
 use Rattle.outcomes.specs.Refusals.{book-decides}
 

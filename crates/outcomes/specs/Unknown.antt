@@ -14,9 +14,9 @@ use Rattle.search.specs.Step.{next-goal}
 use Rattle.search.specs.Run.{goal-at}
 use Rattle.search.specs.Known.{symbol-of, Known}
 use Rattle.search.specs.Furthest.{Figures}
-use Rattle.records.specs.Format.{GoodBook, GoodGoal, Bytes}
-use Rattle.records.specs.Decode.{bookOf, goalOf}
-use Rattle.records.specs.Arities.{Suits}
+use Rattle.format.specs.Format.{GoodBook, GoodGoal, Bytes}
+use Rattle.format.specs.Decode.{bookOf, goalOf}
+use Rattle.format.specs.Arities.{Suits}
 use Rattle.areas.specs.GoodGoals.{Tabled, tabled, AllTabled, path-tabled}
 use Rattle.areas.specs.SuitedGoals.{Known-number, path-suits, unknown-number}
 use Rattle.outcomes.specs.declared.Picked.{Picked}

@@ -17,9 +17,9 @@ use Rattle.search.specs.Pick as Pick
 use Rattle.search.specs.Pick.{Pick, pick}
 use Rattle.search.specs.PickLaws.{pick-iff}
 use Rattle.search.specs.Furthest.{Figures, Furthest, stuck-figures, figures, figures-22, figures-other}
-use Rattle.records.specs.Format.{Bytes}
-use Rattle.records.specs.Decode.{bookOf, goalOf}
-use Rattle.records.proofs.Premises.{book-clauses, goal-premises}
+use Rattle.format.specs.Format.{Bytes}
+use Rattle.format.specs.Decode.{bookOf, goalOf}
+use Rattle.format.proofs.Premises.{book-clauses, goal-premises}
 use Rattle.outcomes.specs.declared.Answer.{Answer}
 use Rattle.outcomes.specs.declared.Picked.{Picked}
 use Rattle.outcomes.specs.declared.Stepped.{Stepped}

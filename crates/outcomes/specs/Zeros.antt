@@ -9,7 +9,7 @@ use mathlib.Core.List.{List}
 use lib.ListN.{length}
 use Rattle.search.specs.AnswerLaws.{answered-runs}
 use Rattle.search.specs.AnswerRuns.{answers-span}
-use Rattle.records.specs.Decode.{bookOf, goalOf}
+use Rattle.format.specs.Decode.{bookOf, goalOf}
 use Rattle.outcomes.specs.declared.Answer.{Answer}
 use Rattle.outcomes.specs.declared.Stepped.{Stepped}
 use Rattle.outcomes.specs.declared.admit.Admitted.{Admitted}

@@ -10,7 +10,7 @@ use borrow.Author.Tests.{leb-true, le-leb}
 use Rattle.terms.specs.When.{_⇒_∣_}
 use Rattle.terms.specs.Cases.{cases}
 use Rattle.search.specs.Next as Next
-use Rattle.records.specs.Format.{encodeBook}
+use Rattle.format.specs.Format.{encodeBook}
 use Rattle.grammar.specs.Syntax.{Rule}
 use Rattle.grammar.specs.Names.{book, name-list}
 use Rattle.grammar.specs.Reading.{Reading}

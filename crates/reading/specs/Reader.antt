@@ -5,7 +5,7 @@ use mathlib.Core.List.{List, [], _∷_}
 use lib.ListN.{length}
 use lib.Dec.{leb, ltb}
 use Rattle.terms.specs.When.{_⇒_∣_}
-use Rattle.records.specs.Format.{encodeBook}
+use Rattle.format.specs.Format.{encodeBook}
 use Rattle.grammar.specs.Token.{Token, name, variable, opening, closing, comma, arrow, stop, Piece, token, blank, comment, spelt}
 use Rattle.grammar.specs.Front.{Front, front, broken, unexpected, front-of}
 use Rattle.grammar.specs.Syntax.{Terms, none, variable-then, name-then, Formula, Rule}

@@ -8,7 +8,7 @@ use lib.ListN.{length}
 use lib.Dec.{ltb}
 use borrow.Author.Tests.{ltb-false, le-ltb}
 use Rattle.terms.specs.Cases.{cases}
-use Rattle.records.specs.Format.{encodeBook}
+use Rattle.format.specs.Format.{encodeBook}
 use Rattle.grammar.specs.Token.{bytes, tokens}
 use Rattle.grammar.specs.Syntax.{Rule}
 use Rattle.grammar.specs.Names.{book}

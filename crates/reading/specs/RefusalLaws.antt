@@ -17,7 +17,7 @@ use Rattle.grammar.specs.FrontLaws.{Half}
 use Rattle.grammar.specs.Syntax.{Rule}
 use Rattle.grammar.specs.Reading.{SmallRules, Writes}
 use Rattle.grammar.specs.Names.{book}
-use Rattle.records.specs.Format.{encodeBook}
+use Rattle.format.specs.Format.{encodeBook}
 use Rattle.reading.specs.Part.{State, start, taken}
 use Rattle.reading.specs.Reader.{limit, long, bad, judge-taken, Outcome, read, refused, reading}
 use Rattle.reading.specs.PrintLaws.{kept}

@@ -8,12 +8,12 @@ use mathlib.Core.List.{List}
 use lib.ListN.{length, getD, set, replicate}
 use lib.Dec.{eqb}
 use Rattle.terms.specs.Cases.{cases}
-use Rattle.records.specs.declared.Check.{Check}
-use Rattle.records.specs.declared.state.Form.the-variants.{Book, Query}
-use Rattle.records.specs.declared.record.Record.the-variants.{Formula}
-use Rattle.records.specs.Reading.{bodyLength, numberAt, recordAt, inRange, verdict, metFrom, met, bookVerdict, queryVerdict}
-use Rattle.records.specs.Arities.{Memory, nothing-met, meet, meets, recalled}
-use Rattle.records.specs.ArityLaws.{recalled-set}
+use Rattle.format.specs.declared.Check.{Check}
+use Rattle.format.specs.declared.Form.the-variants.{Book, Query}
+use Rattle.format.specs.declared.Record.the-variants.{Formula}
+use Rattle.format.specs.Reading.{bodyLength, numberAt, recordAt, inRange, verdict, metFrom, met, bookVerdict, queryVerdict}
+use Rattle.format.specs.Arities.{Memory, nothing-met, meet, meets, recalled}
+use Rattle.format.specs.ArityLaws.{recalled-set}
 
 -- a number that was met, less one, is its arity
 pub same-test : (met n : ℕ) → (met ≡ 0 → ⊥) → eqb (met - 1) n ≡ (eqb met 0 || eqb met (n + 1))

@@ -1,13 +1,13 @@
 // What a check remembers of predicate numbers (document 02, C-18): a byte for each, 0 of one that was not met, and one more than its arity of one that was.
-use crate::record::Record;
 use crate::record::number_at;
+use format::Record;
 ghost use mathlib.Core.Path.{_≡_};
 ghost use mathlib.Core.Bool.{true, _||_};
 ghost use lib.Dec.{eqb};
 ghost use Prim.Native.Nat.{_+_, _<_};
 ghost use lib.ListN.{length, getD};
-ghost use Rattle.records.specs.Reading.{bodyLength, recordAt, inRange};
-ghost use Rattle.records.specs.Arities.{keeps, meets, recalled};
+ghost use Rattle.format.specs.Reading.{bodyLength, recordAt, inRange};
+ghost use Rattle.format.specs.Arities.{keeps, meets, recalled};
 
 // Whether what is remembered of a formula's predicate number, if it was met, is this arity.
 fn same(met: u8, arity: u8) -> bool

@@ -12,8 +12,8 @@ use Rattle.search.specs.AnswerLaws.{answered-runs, answer-whole}
 use Rattle.search.specs.AnswerRuns.{answers-goal}
 use Rattle.search.specs.Furthest.{Figures}
 use Rattle.words.specs.Held.{FormulasIn}
-use Rattle.records.specs.Format.{encodeGoal}
-use Rattle.records.specs.Storage.{Written}
+use Rattle.format.specs.Format.{encodeGoal}
+use Rattle.storage.specs.Storage.{Written}
 use Rattle.searching.specs.declared.Ended.{Ended}
 use Rattle.searching.specs.Searching.{Ends}
 use Rattle.outcomes.specs.declared.Answer.{Answer}

@@ -13,7 +13,7 @@ ghost use Prim.Native.Nat.{_+_, _≤_, min};
 ghost use lib.ListN.{length, take};
 ghost use Rattle.search.specs.Next.{Book, Goal};
 ghost use Rattle.words.specs.Held.{RowIn, BookOn};
-ghost use Rattle.records.specs.Decode.{bookOf};
+ghost use Rattle.format.specs.Decode.{bookOf};
 ghost use Rattle.areas.specs.Rooms.{Rooms};
 ghost use Rattle.searching.specs.Searching.{Ends};
 ghost use Rattle.outcomes.specs.Outcome.{refused, closing, runAnswer, runArea, runAnswerArea};

@@ -13,8 +13,8 @@ use Rattle.search.specs.Room.{fits}
 use Rattle.search.specs.Single.{not-taken, taken, if-fits}
 use Rattle.search.specs.Pick.{applied, apply-by}
 use Rattle.words.specs.Held.{GoalIn, BookOn}
-use Rattle.records.specs.Format.{encodeGoal}
-use Rattle.records.specs.Storage.{Written}
+use Rattle.format.specs.Format.{encodeGoal}
+use Rattle.storage.specs.Storage.{Written}
 use Rattle.resolve.specs.declared.Move.{Move}
 use Rattle.resolve.specs.declared.Move.the-variants.{Stuck, Unknown, Full, Over, To}
 use Rattle.resolve.specs.Advancing.{Alone}

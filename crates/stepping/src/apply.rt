@@ -17,7 +17,7 @@ ghost use Rattle.terms.specs.Node.{Expr};
 ghost use Rattle.search.specs.Next.{Book, Goal};
 ghost use Rattle.search.specs.Pick.{apply-by};
 ghost use Rattle.words.specs.Held.{GoalIn, BookOn};
-ghost use Rattle.records.specs.Decode.{bookOf, goalOf};
+ghost use Rattle.format.specs.Decode.{bookOf, goalOf};
 ghost use Rattle.areas.specs.Rooms.{Rooms};
 ghost use Rattle.resolve.specs.Applying.{Store};
 ghost use Rattle.outcomes.specs.Outcome.{stepRefused, applyAnswer, applyArea};

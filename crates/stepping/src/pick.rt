@@ -16,7 +16,7 @@ ghost use Rattle.search.specs.Next.{Book, Goal};
 ghost use Rattle.search.specs.Pick as Pick;
 ghost use Rattle.search.specs.Furthest.{no-figures};
 ghost use Rattle.words.specs.Held.{GoalIn, BookOn};
-ghost use Rattle.records.specs.Decode.{bookOf, goalOf};
+ghost use Rattle.format.specs.Decode.{bookOf, goalOf};
 ghost use Rattle.areas.specs.Rooms.{Rooms};
 ghost use Rattle.picking.specs.Picking.{Bench};
 ghost use Rattle.outcomes.specs.Outcome.{pickRefused, pickedAs, pickSaid, pickAnswer};

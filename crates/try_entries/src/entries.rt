@@ -1,8 +1,8 @@
 // The entries, each with its line. What each leaves in a lent area is what the entry's contract says.
+use format::Check;
 use libc::STDOUT_FILENO;
 use outcomes::Answer;
 use outcomes::Stepped;
-use records::Check;
 ghost use mathlib.Core.Path.{_≡_};
 ghost use mathlib.Core.Bool.{true};
 ghost use Prim.Native.Nat.{_<_};

@@ -3,9 +3,9 @@ use borrow.Author.Needs.{needs}
 use Prim.Native.Nat.{ℕ}
 use lib.ListN.{length-replicate}
 use mathlib.Core.Path.{ap, _∙_}
-use Rattle.records.specs.declared.state.Form.the-variants.{Book}
-use Rattle.records.specs.Reading.{verdict}
-use Rattle.records.specs.Arities.{Memory}
+use Rattle.format.specs.declared.Form.the-variants.{Book}
+use Rattle.format.specs.Reading.{verdict}
+use Rattle.format.specs.Arities.{Memory}
 use Rattle.records.proofs.Tables.{zeros-met}
 use Rattle.records.proofs.check_book.Statement.{statement}
 use Rattle.records.proofs.check_book.Tie as tie

@@ -3,8 +3,8 @@ use borrow.Author.Needs.{needs}
 use Prim.Native.Nat.{ℕ, _≤_}
 use mathlib.Core.Path.{_≡_, sym as inv, ap, _∙_}
 use mathlib.Core.List.{List}
-use Rattle.records.specs.declared.Check.{Check}
-use Rattle.records.specs.Reading.{queryVerdict}
+use Rattle.format.specs.declared.Check.{Check}
+use Rattle.format.specs.Reading.{queryVerdict}
 use Rattle.areas.proofs.Places.{both-place}
 use Rattle.outcomes.specs.declared.admit.Admitted.{Admitted}
 use Rattle.outcomes.specs.Refusals.{area-short, both-decide}

@@ -1,6 +1,6 @@
 -- `records::arities::keeps` meets its contract. Assumes nothing.
 use borrow.Author.Needs.{needs}
-use Rattle.records.specs.Arities.{keeps}
+use Rattle.format.specs.Arities.{keeps}
 use Rattle.records.proofs.arities.keeps.Statement.{statement}
 use Rattle.records.proofs.arities.keeps.Tie as tie
 

@@ -1,7 +1,7 @@
 use native.Mathlib.Omega.{arith}
 use mathlib.Core.Path.{sym as inv}
 use lib.Seq.{length-take-le}
-use Rattle.records.specs.Decode.{bookOf, goalOf}
+use Rattle.format.specs.Decode.{bookOf, goalOf}
 use borrow.Author.Needs.{needs}
 use Rattle.stepping.proofs.pick.from_bytes.Statement.{statement}
 use Rattle.stepping.proofs.pick.from_bytes.Tie as tie
