@@ -1,4 +1,4 @@
--- A book, or a goal, that is read from a text is good (records, Format), so that a book's check answers 0.
+-- A book, or a goal, that is read from a text is good (format, Format), so that a book's check answers 0.
 use Prim.Native.Nat.{ℕ, zero, suc, _+_, _≤_, _<_}
 use mathlib.Core.Path.{_≡_, refl, ap, _∙_}
 use mathlib.Core.List.{List, [], _∷_, map}

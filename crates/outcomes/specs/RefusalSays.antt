@@ -1,5 +1,5 @@
 -- What a refusal says, of bytes and in plain figures: "Order: area; whole book; whole query." "Codes 1 to 19 refuse the input .. and give steps, span, bytes and every count 0."
--- "An entry that refuses its input changes nothing in any lent area". A fault of a book or a query is told by what books and queries are (records, Faulty).
+-- "An entry that refuses its input changes nothing in any lent area". A fault of a book or a query is told by what books and queries are (format, Faulty).
 use Prim.Native.Nat.{ℕ, _≤_, _<_}
 use native.Mathlib.Omega.{arith}
 use native.Mathlib.Decide.{decLt, ℕ-discrete}
