@@ -25,9 +25,9 @@ void *memcpy(void *restrict to, const void *restrict from, size_t length) {
     return to;
 }
 
-static uint8_t book[128], query[PITXARGOLE_AREA], area[PITXARGOLE_AREA], instance[PITXARGOLE_AREA];
+static uint8_t book[1024], query[PITXARGOLE_AREA], area[PITXARGOLE_AREA], instance[PITXARGOLE_AREA];
 static size_t book_length, query_length;
-static unsigned steps;
+static unsigned steps, before;
 
 /* The records of document 01. */
 static void record(uint8_t kind, unsigned number, int arity) {
@@ -43,18 +43,28 @@ static void compound(unsigned number, int arity) { record(3, number, arity); }
 static void formula(unsigned number, int arity) { record(4, number, arity); }
 static void goal(unsigned formulas) { record(6, formulas, -1); }
 
-/* A rule for p with q as its body, and a letter for each argument's variable; a run of no step has s in the place of p. */
-static void rule(const char *head, const char *body) {
-    book[0] = 5;
-    book[1] = 1;
-    formula(steps ? 1 : 4, (int)strlen(head));
-    for (; *head; head++) variable((unsigned)(*head - 'a'));
-    formula(2, (int)strlen(body));
-    for (; *body; body++) variable((unsigned)(*body - 'a'));
-    book_length = 2 + query_length;
-    memcpy(book + 2, query, query_length);
-    book[book_length++] = 7;
+/* A letter for each variable. */
+static void variables(const char *letters) {
+    for (; *letters; letters++) variable((unsigned)(*letters - 'a'));
+}
+
+/* The formulas that stand in the query's place are a clause of the book: its head, and a body of one. */
+static void clause(void) {
+    book[book_length++] = 5;
+    book[book_length++] = 1;
+    memcpy(book + book_length, query, query_length);
+    book_length += query_length;
     query_length = 0;
+}
+
+/* The last rule, for p with q as its body, and a letter for each argument's variable; a run of no step has s in the place of p. */
+static void rule(const char *head, const char *body) {
+    formula(steps ? 1 : 4, (int)strlen(head));
+    variables(head);
+    formula(2, (int)strlen(body));
+    variables(body);
+    clause();
+    book[book_length++] = 7;
 }
 
 /* p(f(f(..a))) by p(X) :- q(X) */
@@ -105,38 +115,49 @@ static void joined(unsigned nodes) {
     formula(3, 0);
 }
 
-/* The numbers of A0, A1, .. and of B0, B1, .. by first appearance in `doubled`. */
-static unsigned a(unsigned i) { return i < 2 ? i : 2 * i; }
-static unsigned b(unsigned i) { return i < 2 ? 2 + i : 2 * i + 1; }
-
 /* f(V,V), V */
-static void twice(unsigned number) {
+static void twice(const char *letter) {
     compound(1, 2);
-    for (int i = 0; i < 3; i++) variable(number);
+    for (int i = 0; i < 3; i++) variables(letter);
 }
 
-/* p(L,R,A0,B0) by p(X,X,Y,Y) :- q: L and R make A0 f(A1,A1), A1 f(A2,A2) and so on, and the same of B0, B1, ..; then A0 and B0 are made equal, two
-   terms that double at each level (document 02, C-15). */
+/* p(L,R,Y,Z) by p(X,X,Y,Y) :- q: L and R make Y f(A1,A1), A1 f(A2,A2) and so on, and the same of Z, B1, ..; then Y and Z are made equal, two terms that double
+   at each level (document 02, C-15). The query is d, so that the answer does not double with them, and the book has two steps and one for each level up to p:
+   d :- b(s(s(..z)),Y,Z,e,e,Y,Z).
+   b(s(N),A,B,L,R,Y,Z) :- b(N,C,D,c(A,C,B,D,L),c(f(V,V),V,f(W,W),W,R),Y,Z).
+   b(z,A,B,L,R,Y,Z) :- p(L,R,Y,Z). */
 static void doubled(unsigned levels) {
+    before = levels + 2;
+    formula(5, 0);
+    formula(6, 7);
+    for (unsigned i = 0; i < levels; i++) compound(3, 1);
+    constant(2);
+    variables("ab");
+    constant(1);
+    constant(1);
+    variables("ab");
+    clause();
+    formula(6, 7);
+    compound(3, 1);
+    variables("abcdefg");
+    formula(6, 7);
+    variables("ahi");
+    compound(2, 5);
+    variables("bhcid");
+    compound(2, 5);
+    twice("j");
+    twice("k");
+    variables("efg");
+    clause();
+    formula(6, 7);
+    constant(2);
+    variables("abcdef");
+    formula(1, 4);
+    variables("cdef");
+    clause();
     rule("aabb", "");
     goal(1);
-    formula(1, 4);
-    for (unsigned i = 0; i < levels; i++) {
-        compound(2, 5);
-        variable(a(i));
-        variable(a(i + 1));
-        variable(b(i));
-        variable(b(i + 1));
-    }
-    constant(1);
-    for (unsigned i = 0; i < levels; i++) {
-        compound(2, 5);
-        twice(2 * levels + 2 + 2 * i);
-        twice(2 * levels + 3 + 2 * i);
-    }
-    constant(1);
-    variable(a(0));
-    variable(b(0));
+    formula(5, 0);
 }
 
 int main(int words, char **word) {
@@ -150,7 +171,7 @@ int main(int words, char **word) {
         if (strcmp(word[1], shapes[i].name)) continue;
         shapes[i].build((unsigned)atoi(word[2]));
         uint64_t answer = pitxargole_run(10000, book, book_length, query, query_length, area, sizeof area, instance, sizeof instance);
-        return pitxargole_code(answer) == PITXARGOLE_UNKNOWN && pitxargole_steps(answer) == steps ? 0 : 1;
+        return pitxargole_code(answer) == PITXARGOLE_UNKNOWN && pitxargole_steps(answer) == before + steps ? 0 : 1;
     }
     return 2;
 }

@@ -15,6 +15,14 @@ archive() {
     ports/module engine
 }
 
+# native_archive: the archive for this machine itself, which valgrind can follow: on another processor than x86-64 that of ports/build.
+native_archive() {
+    archive && [ "$(uname -m)" != x86_64 ] || return
+    grep -q "^$(uname -m) " ports/targets || { echo "there is no archive for this processor"; exit 77; }
+    built=target/ports/$(uname -m)/libengine.a
+    ports/build "$(uname -m)"
+}
+
 # c_compiler: the name of the compiler for C programs that link the archive.
 c_compiler() { if [ "$(uname -m)" = x86_64 ]; then echo cc; else echo x86_64-linux-gnu-gcc; fi; }
 
