@@ -1,0 +1,5 @@
+pub mod Scanning
+pub mod Places
+pub mod Rights
+pub mod Answers
+pub mod Refusals
