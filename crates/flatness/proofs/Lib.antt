@@ -3,3 +3,5 @@ pub mod Places
 pub mod Rights
 pub mod Answers
 pub mod Refusals
+pub mod Marking
+pub mod Flattened

@@ -69,7 +69,7 @@ book-plain (c ∷ b) =
     (λ p. (n .0 (a .0 (p .1) .0), book-plain b .0 (a .0 (p .1) .1)), λ p. (tt, a .1 (n .1 (p .0), book-plain b .1 (p .1))))
 
 -- an image has one row of records
-one-row : (s : List ℕ) (a b : List Record) → s ≡ encode a → s ≡ encode b → a ≡ b
+pub one-row : (s : List ℕ) (a b : List Record) → s ≡ encode a → s ≡ encode b → a ≡ b
 one-row s a b e f = inv (records-back s a (length s) 0 (omega arith) e) ∙ records-back s b (length s) 0 (omega arith) f
 
 module _ (form : Form) (us : List Use) (one : OneArity us) (s : List ℕ) (bytes : Bytes s) where

@@ -6,11 +6,13 @@ use borrow.Author.Tests.{le-leb, lt-leb, eq-eqb, ne-eqb}
 use mathlib.Core.Path.{_≡_, refl, sym as inv, ap, subst, _∙_}
 use mathlib.Core.List.{List, [], _∷_, _++_, append-assoc}
 use lib.ListN.{length, getD, drop, length-append}
+use lib.Dec.{eqb, leb}
 use Rattle.records.specs.declared.record.Record.{Record}
 use Rattle.records.specs.declared.record.Record.the-variants.{Variable, Constant, Compound, Formula, Clause, Goal, End}
 use Rattle.records.specs.Reading.{bodyLength}
 use Rattle.records.specs.Format.{recordKind, encodeRecord, encode}
 use Rattle.records.proofs.Encoded.{encoded}
+use Rattle.records.proofs.Taken.{pick-small}
 use Rattle.records.proofs.Failing.{record-length}
 use Rattle.flatness.specs.Plain.{NotCompound, PlainRecords}
 use Rattle.flatness.specs.Profile.{compoundFrom}
@@ -107,3 +109,13 @@ module _ (s : List ℕ) (end : ℕ) (short : end ≤ length s) where
       let k : at + 1 + bodyLength (getD s at 0) ≡ at + length (encodeRecord r) = ap (λ (x : ℕ). at + 1 + bodyLength x) (b .kind) ∙ h in
       let next = scanned-on at g (omega (arith, l, n, h)) (λ z. plain-kind r (p .0) (inv (b .kind) ∙ z)) in
       rw n (scan-along rs rest (at + length (encodeRecord r)) (p .1) (rw k at next) (rw h at (b .later)) (omega (arith, l, n)))
+
+-- Each turn of the loop, from what its tests found: for `search`.
+
+pub body-small : (kind : ℕ) → bodyLength kind ≤ 3
+unfolding bodyLength
+body-small kind = pick-small (leb kind 2) _ _ 3 (omega arith) (pick-small (leb kind 4) _ _ 3 (omega arith) (pick-small (eqb kind 5) _ _ 3 (omega arith) (pick-small (eqb kind 6) _ _ 3 (omega arith) (omega arith))))
+
+pub turn-on : (s : List ℕ) (end at kind n at′ : ℕ) → end ≤ length s → Scan s end at → at < end → kind ≡ getD s at 0 → (kind ≡ 3 → ⊥) → n ≡ bodyLength kind → at′ ≡ at + 1 + n → Scan s end at′
+turn-on s end at kind n at′ short g l k d b e =
+    subst (Scan s end) (inv (e ∙ ap (λ (x : ℕ). at + 1 + x) (b ∙ ap bodyLength k))) (scanned-on s end short at g l (λ z. d (k ∙ z)))

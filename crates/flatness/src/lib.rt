@@ -38,7 +38,7 @@ fn first_compound(bytes: &[u8], end: usize) -> usize
 
 // How far the plain check found the kinds of records allowed.
 fn allowed_up_to(base: u8, plain: Check, size: usize) -> usize
-    requires { ⌜ (base ≤ 10) × (plain .place ≤ 32768) ⌝ }
+    requires { ⌜ (base ≤ 10) × (size ≤ 32768) × (allowedUpTo base plain size ≤ size) ⌝ }
     ensures { λ r. ⌜ r ≡ allowedUpTo base plain size ⌝ }
 {
     if plain.code == 0 {
@@ -53,7 +53,7 @@ fn allowed_up_to(base: u8, plain: Check, size: usize) -> usize
 // "8 for the book and 18 for the query at the compound record, straight after the kind test": a compound record that the plain check
 // came to, and did not refuse for its kind.
 fn flat_of(base: u8, limit: usize, plain: Check, bytes: &[u8]) -> Check
-    requires { ⌜ (base ≤ 10) × (limit ≤ 32768) × (plain .place ≤ 32768) ⌝ }
+    requires { ⌜ (base ≤ 10) × (limit ≤ 32768) ⌝ }
     requires { ⌜ (length (now bytes) ≤ limit → allowedUpTo base plain (length (now bytes)) ≤ length (now bytes)) ⌝ }
     ensures { λ r. ⌜ r ≡ flatOf base limit plain (now (bytes .entry)) ⌝ }
 {
