@@ -34,7 +34,7 @@ listed-map h x (y ∷ a) (inl e) = inl (ap h e)
 listed-map h x (y ∷ a) (inr i) = inr (listed-map h x a i)
 
 -- each letter before each word
-abbrev before : List Node → List Expr → List Expr
+abbrev pub before : List Node → List Expr → List Expr
 before [] words = []
 before (x ∷ letters) words = map (λ w. x ∷ w) words ++ before letters words
 
@@ -43,12 +43,12 @@ listed-before x w (y ∷ letters) words (inl e) j = listed-left (x ∷ w) (map (
 listed-before x w (y ∷ letters) words (inr i) j = listed-right (x ∷ w) (map (λ w. y ∷ w) words) (before letters words) (listed-before x w letters words i j)
 
 -- the words of n letters
-abbrev words : List Node → ℕ → List Expr
+abbrev pub words : List Node → ℕ → List Expr
 words letters zero = [] ∷ []
 words letters (suc n) = before letters (words letters n)
 
 -- the first n variables
-abbrev variables : ℕ → List Node
+abbrev pub variables : ℕ → List Node
 variables zero = []
 variables (suc n) = var n ∷ variables n
 
@@ -57,11 +57,11 @@ listed-variable zero v l = absurd (omega arith)
 listed-variable (suc n) v l = elim (ℕ-discrete v n) [ yes e ↦ inl (ap var e) | no m ↦ inr (listed-variable n v (omega (arith, l, m))) ]
 
 -- what arguments are made of: so many variables, and the constants
-abbrev letters : ℕ → List ℕ → List Node
+abbrev pub letters : ℕ → List ℕ → List Node
 letters n cs = variables n ++ map (λ c. sym (constant c)) cs
 
 -- the formulas of one predicate, and of all
-abbrev of-predicate : List ℕ → Symbol → List Expr
+abbrev pub of-predicate : List ℕ → Symbol → List Expr
 of-predicate cs (constant c) = []
 of-predicate cs (compound f n) = []
 of-predicate cs (predicate p a) = map (λ e. sym (predicate p a) ∷ e) (words (letters a cs) a)

@@ -4,3 +4,6 @@ pub mod Flat
 pub mod FlatLaws
 pub mod Formulas
 pub mod Theorem
+pub mod Closing
+pub mod Bound
+pub mod Doubling

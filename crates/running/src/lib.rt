@@ -22,7 +22,7 @@ ghost use Rattle.outcomes.specs.Running.{Leaves};
 ghost use Rattle.running.specs.Ending.{answered};
 
 // "Codes 1 to 19 refuse the input .. and give steps, span, bytes and every count 0."
-fn refused(a: Admitted) -> Answer
+pub fn refused(a: Admitted) -> Answer
     ensures { λ r. ⌜ r ≡ refused a ⌝ }
 {
     Answer {
@@ -131,7 +131,7 @@ fn from_good(book: &[u8], query: &[u8], budget: u32, area: &mut [u8], answer: &m
     )
 }
 
-fn shorter(a: usize, b: usize) -> usize
+pub fn shorter(a: usize, b: usize) -> usize
     ensures { λ r. ⌜ r ≡ min a b ⌝ }
 {
     if b < a {

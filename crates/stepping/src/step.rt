@@ -8,7 +8,7 @@ ghost use Rattle.outcomes.specs.Outcome.{stepAnswer, stepArea};
 ghost use Rattle.outcomes.specs.Stepping.{not-stepped};
 
 // No step is taken: "otherwise steps and clause number are 0".
-fn not_stepped(code: u8, place: u32, furthest: u32, argument: u32) -> Stepped
+pub fn not_stepped(code: u8, place: u32, furthest: u32, argument: u32) -> Stepped
     ensures { λ r. ⌜ r ≡ not-stepped code place (record { clause = furthest; argument = argument }) ⌝ }
 {
     Stepped {
