@@ -21,15 +21,15 @@ use Rattle.flat.specs.Flat.{Constant-of, Flat, flat}
 
 -- Lists of lists.
 
-listed-left : {F : Type 0} (x : F) (a b : List F) → Listed x a → Listed x (a ++ b)
+pub listed-left : {F : Type 0} (x : F) (a b : List F) → Listed x a → Listed x (a ++ b)
 listed-left x (y ∷ a) b (inl e) = inl e
 listed-left x (y ∷ a) b (inr i) = inr (listed-left x a b i)
 
-listed-right : {F : Type 0} (x : F) (a b : List F) → Listed x b → Listed x (a ++ b)
+pub listed-right : {F : Type 0} (x : F) (a b : List F) → Listed x b → Listed x (a ++ b)
 listed-right x [] b i = i
 listed-right x (y ∷ a) b i = inr (listed-right x a b i)
 
-listed-map : {F G : Type 0} (h : F → G) (x : F) (a : List F) → Listed x a → Listed (h x) (map h a)
+pub listed-map : {F G : Type 0} (h : F → G) (x : F) (a : List F) → Listed x a → Listed (h x) (map h a)
 listed-map h x (y ∷ a) (inl e) = inl (ap h e)
 listed-map h x (y ∷ a) (inr i) = inr (listed-map h x a i)
 

@@ -5,3 +5,4 @@ pub mod Answers
 pub mod Refusals
 pub mod Marking
 pub mod Flattened
+pub mod Paths
