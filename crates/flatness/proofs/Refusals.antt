@@ -2,6 +2,7 @@
 -- good book, or a good goal, without a compound term.
 use Prim.Native.Nat.{ℕ, _≤_}
 use native.Mathlib.Omega.{arith}
+use native.Mathlib.Decide.{ℕ-discrete}
 use borrow.Author.Tests.{eq-eqb, ne-eqb, eqb-true, eqb-false}
 use mathlib.Core.Path.{_≡_, refl, sym as inv, ap, subst, _∙_}
 use mathlib.Core.Logic.{_↔_, _⊎_, inl, inr}
@@ -155,3 +156,13 @@ module _ (book s : List ℕ) (book-bytes : Bytes book) (good : bookFlat book .co
       let us = bookUses (bookOf book) in
       let t = flat-taken Query us (bookOf-one book book-bytes v) s bytes (inv (ap (λ (c : Check). c .code) query-flat-after) ∙ z) in
       query-flat-after ∙ t .same ∙ inv (query-verdict book s v ∙ ap (λ (m : Memory). verdict Query m s) (met-is book book-bytes v))
+
+-- "Codes 1 to 19 refuse the input .. and give .. every count 0."
+pub query-flat-count : (book s : List ℕ) → Bytes book → Bytes s → (queryFlat book s .code ≡ 0 → ⊥) → queryFlat book s .count ≡ 0
+query-flat-count book s book-bytes bytes n = elim (ℕ-discrete (bookFlat book .code) 0) [
+  | yes z ↦ (
+      let e = query-flat-after book s book-bytes z in
+      let one = bookOf-one book book-bytes (book-flat-good book book-bytes z) in
+      ap (λ (c : Check). c .count) e ∙ flat-refused-count Query (bookUses (bookOf book)) one s bytes (λ w. n (ap (λ (c : Check). c .code) e ∙ w)))
+  | no m ↦ ap (λ (c : Check). c .count) (query-flat-refused book s m) ∙ flat-refused-count Book [] one-none book book-bytes m
+]

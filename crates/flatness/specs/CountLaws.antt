@@ -69,10 +69,10 @@ module _ {A : Type 0} (same : A → A → Bool) (sound : (x y : A) → same x y 
       (λ p. simp p (distinct-apart xs))
       (λ p. simp p (λ i. let t = listed-among y xs (distinct-listed y xs .0 i) in absurd (let w : _≡_ {A = ℕ} 0 1 = cc in let v : ⊥ = omega arith in v), distinct-apart xs))
 
-  pub count-distinct : (xs : List A) → Count xs (length (distinct same xs))
+  count-distinct : (xs : List A) → Count xs (length (distinct same xs))
   count-distinct xs = record { list = distinct same xs; apart = distinct-apart xs; members = λ x. distinct-listed x xs; count = refl }
 
-  pub distinct-few : (xs : List A) → length (distinct same xs) ≤ length xs
+  distinct-few : (xs : List A) → length (distinct same xs) ≤ length xs
   distinct-few [] = omega arith
   distinct-few (y ∷ xs) = let f = distinct-few xs in cases (among same y xs) (λ p. simp p (omega (arith, f))) (λ p. simp p (omega (arith, f)))
 
@@ -84,7 +84,7 @@ number-sound x y e = eqb-true x y e
 number-complete : (x y : ℕ) → x ≡ y → eqb x y ≡ true
 number-complete x y e = eq-eqb x y e
 
-pub count-numbers : (xs : List ℕ) → Count xs (length (distinct eqb xs))
+count-numbers : (xs : List ℕ) → Count xs (length (distinct eqb xs))
 count-numbers xs = count-distinct eqb number-sound number-complete xs
 
 use-sound : (u v : Use) → sameUse u v ≡ true → u ≡ v
@@ -103,6 +103,14 @@ predicates-counted b = count-distinct sameUse use-sound use-complete (bookUses b
 pub constants-counted : (b : Next.Book) → Count (constantsIn b) (bookConstants b)
 unfolding bookConstants
 constants-counted b = count-numbers (constantsIn b)
+
+pub predicates-few : (b : Next.Book) → bookPredicates b ≤ length (bookUses b)
+unfolding bookPredicates
+predicates-few b = distinct-few sameUse use-sound use-complete (bookUses b)
+
+pub constants-few : (b : Next.Book) → bookConstants b ≤ length (constantsIn b)
+unfolding bookConstants
+constants-few b = distinct-few eqb number-sound number-complete (constantsIn b)
 
 -- Where a number is used with one arity, uses are as many as their numbers.
 
