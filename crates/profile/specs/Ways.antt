@@ -31,7 +31,8 @@ use Rattle.engine.specs.declared.admit.Admitted.{Admitted}
 use Rattle.engine.specs.declared.Answer.{Answer}
 use Rattle.engine.specs.declared.Stepped.{Stepped}
 use Rattle.engine.specs.Outcome.{refusal, room, refused, stepped, stepRefused, stepSaid, runAnswer, runArea, runAnswerArea, stepAnswer, stepArea}
-use Rattle.engine.specs.Refusals.{both-decide}
+use Rattle.engine.specs.Refusals.{area-short}
+use Rattle.engine.specs.Running as Running
 use Rattle.engine.specs.Stepping as Stepping
 use Rattle.engine.specs.Figures.{run-narrow, refusal-low, image-short}
 use Rattle.engine.specs.Firmware.{Narrow}
@@ -48,6 +49,20 @@ module _ (book query : List ℕ) where
   pub by-checks : (room : ℕ) → 16387 ≤ room → flatRefusal book query room ≡ record { code = queryFlat book query .code; place = queryFlat book query .place }
   unfolding flatRefusal
   by-checks room l = simp (le-ltb room 16387 l)
+
+  -- by what the flat check of the query has found
+  pub by-found : (room : ℕ) (c : Check) → 16387 ≤ room → c ≡ queryFlat book query → record { code = c .code; place = c .place } ≡ flatRefusal book query room
+  by-found room c l e = ap (λ (x : Check). record { code = x .code; place = x .place }) e ∙ inv (by-checks room l)
+
+  pub code-found : (room : ℕ) (a : Admitted) → a ≡ flatRefusal book query room → (a .code ≡ 0 → ⊥) → flatRefusal book query room .code ≡ 0 → ⊥
+  code-found room a e n z = n (ap (λ (x : Admitted). x .code) e ∙ z)
+
+  -- too short an area is refused as the plain entries refuse it
+  pub short-same : (room : ℕ) → room < 16387 → refusal book query room ≡ flatRefusal book query room
+  short-same room l = area-short book query room l ∙ inv (short-area room l)
+
+  pub short-code : (room : ℕ) → room < 16387 → flatRefusal book query room .code ≡ 0 → ⊥
+  short-code room l z = omega (arith, ap (λ (a : Admitted). a .code) (short-area room l), z)
 
 -- a flat check's place is in the input, or at its limit
 flat-of-place : (base limit : ℕ) (plain : Check) (s : List ℕ) → plain .place ≤ limit → (length s ≤ limit → allowedUpTo base plain (length s) ≤ length s) → flatOf base limit plain s .place ≤ limit
@@ -115,6 +130,19 @@ module _ (book query : List ℕ) (budget : ℕ) (area space : List ℕ) where
     unfolding flatRunAnswerArea
     run-answer-area-kept = simp (ne-eqb (refusing .code) 0 n)
 
+  -- an area is too short
+  module _ (l : room area space < 16387) where
+    plain-code : refusal book query (room area space) .code ≡ 0 → ⊥
+    plain-code z = short-code book query (room area space) l (inv (ap (λ (a : Admitted). a .code) (short-same book query (room area space) l)) ∙ z)
+
+    pub run-short : (runAnswer book query budget area space ≡ answer) × (runArea book query budget area space ≡ flatRunArea book query budget area space) × (runAnswerArea book query budget area space ≡ flatRunAnswerArea book query budget area space)
+    run-short =
+        let n = short-code book query (room area space) l in (
+          Running.answer-refused book query budget area space plain-code ∙ ap refused (short-same book query (room area space) l) ∙ inv (run-refused n),
+          Running.area-refused book query budget area space plain-code ∙ inv (run-area-kept n),
+          Running.answer-area-refused book query budget area space plain-code ∙ inv (run-answer-area-kept n),
+        )
+
   pub flat-run-narrow : Bytes book → Bytes query → Narrow answer
   flat-run-narrow book-bytes query-bytes = elim (ℕ-discrete (refusing .code) 0) [
     | yes z ↦ rw (run-taken z) (run-narrow book query budget area space query-bytes)
@@ -149,6 +177,17 @@ module _ (book query area : List ℕ) where
     pub step-area-kept : flatStepArea book query area ≡ area
     unfolding flatStepArea
     step-area-kept = simp (ne-eqb (step-refusing .code) 0 n)
+
+  module _ (l : length area < 16387) where
+    step-plain-code : refusal book query (length area) .code ≡ 0 → ⊥
+    step-plain-code z = short-code book query (length area) l (inv (ap (λ (a : Admitted). a .code) (short-same book query (length area) l)) ∙ z)
+
+    pub step-short : (stepAnswer book query area ≡ flatStepAnswer book query area) × (stepArea book query area ≡ flatStepArea book query area)
+    step-short =
+        let n = short-code book query (length area) l in (
+          Stepping.answer-refused book query area step-plain-code ∙ ap stepRefused (short-same book query (length area) l) ∙ inv (step-refused n),
+          Stepping.area-refused book query area step-plain-code ∙ inv (step-area-kept n),
+        )
 
   plain-narrow : ApplyNarrow (stepAnswer book query area)
   plain-narrow = elim (ℕ-discrete (refusal book query (length area) .code) 0) [

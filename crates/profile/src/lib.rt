@@ -9,33 +9,38 @@ use engine::run::shorter;
 use engine::step::not_stepped;
 use engine::step::step;
 use flatness::check_flat_query;
+use records::Check;
 ghost use mathlib.Core.Path.{_≡_};
-ghost use Rattle.profile.specs.Outcome.{flatRefusal, flatStepAnswer, flatStepArea, flatRunAnswer, flatRunArea, flatRunAnswerArea};
+ghost use Prim.Native.Nat.{_≤_};
+ghost use Rattle.profile.specs.Outcome.{flatStepAnswer, flatStepArea, flatRunAnswer, flatRunArea, flatRunAnswerArea};
 
 pub mod firmware; // for C
 
-// "Order: area; whole book; whole query.", by the flat checks.
-fn admit(book: &[u8], query: &[u8], room: usize) -> Admitted
-    ensures { λ r. ⌜ r ≡ flatRefusal (now (book .entry)) (now (query .entry)) room ⌝ }
+// What a flat check has found, as a refusal.
+fn found(c: Check) -> Admitted
+    requires { ⌜ c .place ≤ 32768 ⌝ }
+    ensures { λ r. ⌜ r ≡ record { code = c .code; place = c .place } ⌝ }
 {
-    if room < 16387 {
-        return Admitted { code: 1, place: 0 };
-    }
-    let both = check_flat_query(book, query);
     Admitted {
-        code: both.code,
-        place: both.place as u32,
+        code: c.code,
+        place: c.place as u32,
     }
 }
 
+// "Order: area; whole book; whole query." An area that is too short is for the plain step to refuse. With two calls of it the compiler leaves it a
+// function of its own, whose frame is not yet there while the flat check has its table; so it is with the run.
 pub fn flat_step(book: &[u8], query: &[u8], area: &mut [u8]) -> Stepped
     ensures answer { λ r. ⌜ r ≡ flatStepAnswer (now (book .entry)) (now (query .entry)) (now (area .entry)) ⌝ }
     ensures area { λ _. ⌜ now (area .exit) ≡ flatStepArea (now (book .entry)) (now (query .entry)) (now (area .entry)) ⌝ }
 {
-    let a = admit(book, query, area.len());
-    if a.code == 0 {
+    if area.len() < 16387 {
         return step(book, query, area);
     }
+    let both = check_flat_query(book, query);
+    if both.code == 0 {
+        return step(book, query, area);
+    }
+    let a = found(both);
     not_stepped(a.code, a.place, 0, 0)
 }
 
@@ -50,9 +55,12 @@ pub fn flat_run(
     ensures area { λ _. ⌜ now (area .exit) ≡ flatRunArea (now (book .entry)) (now (query .entry)) budget (now (area .entry)) (now (answer .entry)) ⌝ }
     ensures answer { λ _. ⌜ now (answer .exit) ≡ flatRunAnswerArea (now (book .entry)) (now (query .entry)) budget (now (area .entry)) (now (answer .entry)) ⌝ }
 {
-    let a = admit(book, query, shorter(area.len(), answer.len()));
-    if a.code == 0 {
+    if shorter(area.len(), answer.len()) < 16387 {
         return run(book, query, budget, area, answer);
     }
-    refused(a)
+    let both = check_flat_query(book, query);
+    if both.code == 0 {
+        return run(book, query, budget, area, answer);
+    }
+    refused(found(both))
 }

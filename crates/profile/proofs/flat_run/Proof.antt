@@ -1,17 +1,16 @@
 -- `profile::flat_run` meets its contract. Assumes nothing.
 use borrow.Author.Needs.{needs}
-use mathlib.Core.Path.{sym as inv, ap, _∙_}
+use native.Mathlib.Omega.{arith}
+use mathlib.Core.Path.{_≡_, sym as inv, ap, _∙_}
+use Rattle.records.specs.declared.Check.{Check}
+use Rattle.engine.specs.declared.admit.Admitted.{Admitted}
 use Rattle.engine.specs.Outcome.{refused}
-use Rattle.profile.specs.Outcome.{flatRefusal}
-use Rattle.profile.specs.Ways.{run-taken, run-area-taken, run-answer-area-taken, run-refused, run-area-kept, run-answer-area-kept}
+use Rattle.profile.specs.Ways.{by-found, code-found, query-flat-place, run-short, run-taken, run-area-taken, run-answer-area-taken, run-refused, run-area-kept, run-answer-area-kept}
 use Rattle.profile.proofs.flat_run.Statement.{statement}
 use Rattle.profile.proofs.flat_run.Tie as tie
 
 shorter-requires : tie.Need-shorter-requires
 shorter-requires c κs = search needs
-
-admit-requires : tie.Need-admit-requires
-admit-requires c κs = search needs
 
 run-requires : tie.Need-run-requires
 run-requires c κs = search needs
@@ -24,28 +23,55 @@ same-length-2 c = search needs
 
 returns : tie.Need-returns
 returns c =
-    let z = rw (c .before .before .before .before .before .before .before .before .before .before .shorter .ensures) at (rw (c .before .before .before .before .before .before .before .before .before .admit .ensures) at (c .before .before .before .before .before .before .before .if1 .taken)) in
     let s = c .before .before .before .before .run .ensures in
+    let w = run-short _ _ (c .before .before .before .before .before .before .before .before .before .before .before .before .before .args .budget) _ _ (rw (c .before .before .before .before .before .before .before .before .shorter .ensures) at (c .before .before .before .before .before .before .before .if1 .taken)) in
+    (s .0 ∙ w .0, (s .1 .0 ∙ w .1, s .1 .1 ∙ w .2))
+
+check-flat-query-requires : tie.Need-check-flat-query-requires
+check-flat-query-requires c κs = search needs
+
+run-requires-2 : tie.Need-run-requires-2
+run-requires-2 c κs = search needs
+
+same-length-3 : tie.Need-same-length-3
+same-length-3 c = search needs
+
+same-length-4 : tie.Need-same-length-4
+same-length-4 c = search needs
+
+returns-2 : tie.Need-returns-2
+returns-2 c =
+    let e = by-found _ _ _ _ (rw (c .before .before .before .before .before .before .before .before .before .before .before .shorter .ensures) at (c .before .before .before .before .before .before .before .before .before .before .if1 .left)) (c .before .before .before .before .before .before .before .before .before .check-flat-query .ensures) in
+    let z = inv (ap (λ (a : Admitted). a .code) e) ∙ c .before .before .before .before .before .before .before .if2 .taken in
+    let s = c .before .before .before .before .run2 .ensures in
     (s .0 ∙ inv (run-taken _ _ _ _ _ z), (s .1 .0 ∙ inv (run-area-taken _ _ _ _ _ z), s .1 .1 ∙ inv (run-answer-area-taken _ _ _ _ _ z)))
+
+found-requires : tie.Need-found-requires
+found-requires c κs = omega (arith, ap (λ (r : Check). r .place) (c .before .before .check-flat-query .ensures), query-flat-place (c .before .before .before .before .before .before .before .before .before .args .book .now) (c .before .before .before .before .before .before .before .before .before .args .query .now) (λ i. omega (arith, c .before .before .before .before .before .before .before .before .shared-slice-known .given i)))
 
 refused-requires : tie.Need-refused-requires
 refused-requires c κs = search needs
 
-returns-2 : tie.Need-returns-2
-returns-2 c =
-    let m = c .before .before .before .before .shorter .ensures in
-    let n = rw m at (rw (c .before .before .before .admit .ensures) at (c .before .if1 .left)) in
-    (c .refused .ensures ∙ ap refused (c .before .before .before .admit .ensures ∙ ap (flatRefusal _ _) m) ∙ inv (run-refused _ _ _ _ _ n), (inv (run-area-kept _ _ _ _ _ n), inv (run-answer-area-kept _ _ _ _ _ n)))
+returns-3 : tie.Need-returns-3
+returns-3 c =
+    let e = by-found _ _ _ _ (rw (c .before .before .before .before .before .before .shorter .ensures) at (c .before .before .before .before .before .if1 .left)) (c .before .before .before .before .check-flat-query .ensures) in
+    let n = code-found _ _ _ _ e (c .before .before .if2 .left) in
+    (c .refused .ensures ∙ ap refused (c .before .found .ensures ∙ e) ∙ inv (run-refused _ _ _ _ _ n), (inv (run-area-kept _ _ _ _ _ n), inv (run-answer-area-kept _ _ _ _ _ n)))
 
 pub flat-run-spec : {M : Type 1} → statement M
 flat-run-spec =
     tie.close
     (tie.spec
     shorter-requires
-    admit-requires
     run-requires
     same-length
     same-length-2
     returns
+    check-flat-query-requires
+    run-requires-2
+    same-length-3
+    same-length-4
+    returns-2
+    found-requires
     refused-requires
-    returns-2)
+    returns-3)

@@ -1,13 +1,13 @@
 -- `profile::flat_step` meets its contract. Assumes nothing.
 use borrow.Author.Needs.{needs}
-use mathlib.Core.Path.{sym as inv, ap, _∙_}
+use native.Mathlib.Omega.{arith}
+use mathlib.Core.Path.{_≡_, sym as inv, ap, _∙_}
+use Rattle.records.specs.declared.Check.{Check}
+use Rattle.engine.specs.declared.admit.Admitted.{Admitted}
 use Rattle.engine.specs.Outcome.{stepRefused}
-use Rattle.profile.specs.Ways.{step-taken, step-area-taken, step-refused, step-area-kept}
+use Rattle.profile.specs.Ways.{by-found, code-found, query-flat-place, step-short, step-taken, step-area-taken, step-refused, step-area-kept}
 use Rattle.profile.proofs.flat_step.Statement.{statement}
 use Rattle.profile.proofs.flat_step.Tie as tie
-
-admit-requires : tie.Need-admit-requires
-admit-requires c κs = search needs
 
 step-requires : tie.Need-step-requires
 step-requires c κs = search needs
@@ -16,19 +16,46 @@ same-length : tie.Need-same-length
 same-length c = search needs
 
 returns : tie.Need-returns
-returns c =
-    let z = rw (c .before .before .before .before .before .before .admit .ensures) at (c .before .before .before .before .if1 .taken) in
-    (c .before .before .step .ensures .0 ∙ inv (step-taken _ _ _ z), c .before .before .step .ensures .1 ∙ inv (step-area-taken _ _ _ z))
+returns c = let w = step-short _ _ _ (c .before .before .before .before .if1 .taken) in (c .before .before .step .ensures .0 ∙ w .0, c .before .before .step .ensures .1 ∙ w .1)
+
+check-flat-query-requires : tie.Need-check-flat-query-requires
+check-flat-query-requires c κs = search needs
+
+step-requires-2 : tie.Need-step-requires-2
+step-requires-2 c κs = search needs
+
+same-length-2 : tie.Need-same-length-2
+same-length-2 c = search needs
+
+returns-2 : tie.Need-returns-2
+returns-2 c =
+    let e = by-found _ _ _ _ (c .before .before .before .before .before .before .before .if1 .left) (c .before .before .before .before .before .before .check-flat-query .ensures) in
+    let z = inv (ap (λ (a : Admitted). a .code) e) ∙ c .before .before .before .before .if2 .taken in
+    (c .before .before .step2 .ensures .0 ∙ inv (step-taken _ _ _ z), c .before .before .step2 .ensures .1 ∙ inv (step-area-taken _ _ _ z))
+
+found-requires : tie.Need-found-requires
+found-requires c κs = omega (arith, ap (λ (r : Check). r .place) (c .before .before .check-flat-query .ensures), query-flat-place (c .before .before .before .before .before .before .before .args .book .now) (c .before .before .before .before .before .before .before .args .query .now) (λ i. omega (arith, c .before .before .before .before .before .before .shared-slice-known .given i)))
 
 not-stepped-requires : tie.Need-not-stepped-requires
 not-stepped-requires c κs = search needs
 
-returns-2 : tie.Need-returns-2
-returns-2 c =
-    let n = rw (c .before .before .before .admit .ensures) at (c .before .if1 .left) in
-    (c .not-stepped .ensures ∙ ap stepRefused (c .before .before .before .admit .ensures) ∙ inv (step-refused _ _ _ n), inv (step-area-kept _ _ _ n))
+returns-3 : tie.Need-returns-3
+returns-3 c =
+    let e = by-found _ _ _ _ (c .before .before .before .before .before .if1 .left) (c .before .before .before .before .check-flat-query .ensures) in
+    let n = code-found _ _ _ _ e (c .before .before .if2 .left) in
+    (c .not-stepped .ensures ∙ ap stepRefused (c .before .found .ensures ∙ e) ∙ inv (step-refused _ _ _ n), inv (step-area-kept _ _ _ n))
 
 pub flat-step-spec : {M : Type 1} → statement M
 flat-step-spec =
     tie.close
-    (tie.spec admit-requires step-requires same-length returns not-stepped-requires returns-2)
+    (tie.spec
+    step-requires
+    same-length
+    returns
+    check-flat-query-requires
+    step-requires-2
+    same-length-2
+    returns-2
+    found-requires
+    not-stepped-requires
+    returns-3)
