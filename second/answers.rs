@@ -1,8 +1,9 @@
 // What must come out: a line for each item of a stream.
-use crate::entries::{Answer, apply, pick, run, step};
+use crate::entries::{Answer, apply, pick, run_in, step};
+use crate::flat;
 use crate::item::{Case, Entry, Item};
 use crate::period;
-use crate::read::{self, Refusal};
+use crate::read::{self, Profile, Refusal};
 
 /// The sum that `try_entries` makes of bytes.
 pub fn sum(bytes: &[u8]) -> u64 {
@@ -18,9 +19,17 @@ fn check(counted: Result<usize, Refusal>) -> String {
 }
 
 /// "The single query check now takes the book and checks it first" (document 02, C-18).
-fn query_nodes(case: &Case) -> Result<usize, Refusal> {
-    let clauses = read::book(&case.book)?;
-    read::query(&clauses, &case.query).map(|goal| crate::tree::nodes(&goal))
+fn query_nodes(profile: Profile, case: &Case) -> Result<usize, Refusal> {
+    let clauses = read::book(profile, &case.book)?;
+    read::query(profile, &clauses, &case.query).map(|goal| crate::tree::nodes(&goal))
+}
+
+/// A check for C: the code, and above it the place of a fault or the count of what is good.
+fn checked_number(counted: Result<usize, Refusal>) -> u64 {
+    match counted {
+        Ok(count) => count as u64 * 256,
+        Err(refusal) => refusal.code as u64 + refusal.place as u64 * 256,
+    }
 }
 
 /// "For C the answer is one 64-bit number". Its top 32 bits have the steps of a run, or the clause number of a pick and of an apply: with code 22 that of
@@ -40,13 +49,14 @@ fn all(a: &Answer) -> String {
 
 /// The numbers of a run, and what its two areas hold then.
 fn of_run(entry: Entry, case: &Case) -> Result<String, String> {
+    let profile = if matches!(entry, Entry::FlatRun | Entry::FlatRunForC) { Profile::Flat } else { Profile::Plain };
     let (mut area, mut answer) = (case.area.bytes(), case.answer.bytes());
-    let a = run(&case.book, &case.query, case.number, &mut area, &mut answer);
+    let a = run_in(profile, &case.book, &case.query, case.number, &mut area, &mut answer);
     if a.code == 21 {
         period::shortest(case, &a)?;
     }
     let numbers = match entry {
-        Entry::RunForC => number(&a, a.steps).to_string(),
+        Entry::RunForC | Entry::FlatRunForC => number(&a, a.steps).to_string(),
         _ => format!("{} {} {} {} {} {} {} {}", a.code, a.place, a.steps, a.span, a.bytes, a.answer, a.furthest, a.argument),
     };
     Ok(format!("{numbers} {} {}", sum(&area), sum(&answer)))
@@ -56,7 +66,12 @@ fn of_run(entry: Entry, case: &Case) -> Result<String, String> {
 fn lent(entry: Entry, case: &Case) -> String {
     let mut area = case.area.bytes();
     let numbers = match entry {
-        Entry::Step => all(&step(&case.book, &case.query, &mut area)),
+        Entry::Step => all(&step(Profile::Plain, &case.book, &case.query, &mut area)),
+        Entry::FlatStep => all(&step(Profile::Flat, &case.book, &case.query, &mut area)),
+        Entry::FlatStepForC => {
+            let a = step(Profile::Flat, &case.book, &case.query, &mut area);
+            number(&a, a.clause).to_string()
+        }
         Entry::Apply => all(&apply(&case.book, &case.query, case.number, &mut area)),
         _ => {
             let a = apply(&case.book, &case.query, case.number, &mut area);
@@ -75,10 +90,14 @@ fn picked(entry: Entry, a: Answer) -> String {
 
 pub fn line(item: &Item) -> Result<String, String> {
     match item.entry {
-        Entry::CheckBook => Ok(check(read::book(&item.case.book).map(|clauses| clauses.len()))),
-        Entry::CheckQuery => Ok(check(query_nodes(&item.case))),
+        Entry::CheckBook => Ok(check(read::book(Profile::Plain, &item.case.book).map(|clauses| clauses.len()))),
+        Entry::CheckQuery => Ok(check(query_nodes(Profile::Plain, &item.case))),
+        Entry::CheckFlatQuery => Ok(check(query_nodes(Profile::Flat, &item.case))),
+        Entry::FlatQueryForC => Ok(checked_number(query_nodes(Profile::Flat, &item.case)).to_string()),
+        Entry::CheckFlatBook => Ok(flat::line(&item.case.book)),
+        Entry::FlatBookForC => Ok(flat::number(&item.case.book).to_string()),
         entry @ (Entry::Pick | Entry::PickForC) => Ok(picked(entry, pick(&item.case.book, &item.case.query))),
-        entry @ (Entry::Run | Entry::RunForC) => of_run(entry, &item.case),
+        entry @ (Entry::Run | Entry::RunForC | Entry::FlatRun | Entry::FlatRunForC) => of_run(entry, &item.case),
         entry => Ok(lent(entry, &item.case)),
     }
 }

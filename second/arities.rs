@@ -3,7 +3,7 @@ use crate::build;
 use crate::dice::Dice;
 use crate::image;
 use crate::item::Case;
-use crate::read;
+use crate::read::{self, Profile};
 use crate::tree::{Clause, Formula};
 
 fn formulas(clauses: &mut [Clause]) -> impl Iterator<Item = &mut Formula> {
@@ -20,8 +20,8 @@ fn change(chosen: &mut Formula, number: u16, dice: &mut Dice) {
 
 /// The case with such a book or query, if its own are good. A formula by the dice is changed, and variables are numbered anew.
 pub fn made(case: Case, dice: &mut Dice) -> Case {
-    let Ok(mut clauses) = read::book(&case.book) else { return case };
-    let Ok(mut goal) = read::query(&clauses, &case.query) else { return case };
+    let Ok(mut clauses) = read::book(Profile::Plain, &case.book) else { return case };
+    let Ok(mut goal) = read::query(Profile::Plain, &clauses, &case.query) else { return case };
     let mut all: Vec<&mut Formula> = formulas(&mut clauses).chain(&mut goal).collect();
     if all.is_empty() {
         return case;

@@ -1,7 +1,7 @@
 // The entries: what they refuse, what they answer and what they write.
 use crate::image;
 use crate::path::{Next, NoRoom, fit, fitting, follow, next, next_goal, none_fits};
-use crate::read;
+use crate::read::{self, Profile};
 use crate::reason::furthest;
 use crate::tree::{Clause, Goal};
 
@@ -28,14 +28,14 @@ fn only(code: u8) -> Answer {
     Answer { code, ..Answer::default() }
 }
 
-fn inputs(book: &[u8], query: &[u8]) -> Result<(Vec<Clause>, Goal), Answer> {
-    let clauses = read::book(book).map_err(refused)?;
-    let goal = read::query(&clauses, query).map_err(refused)?;
+fn inputs(profile: Profile, book: &[u8], query: &[u8]) -> Result<(Vec<Clause>, Goal), Answer> {
+    let clauses = read::book(profile, book).map_err(refused)?;
+    let goal = read::query(profile, &clauses, query).map_err(refused)?;
     Ok((clauses, goal))
 }
 
-fn with_areas(book: &[u8], query: &[u8], areas: &[&[u8]]) -> Result<(Vec<Clause>, Goal), Answer> {
-    if areas.iter().any(|area| area.len() < 16387) { Err(only(1)) } else { inputs(book, query) }
+fn with_areas(profile: Profile, book: &[u8], query: &[u8], areas: &[&[u8]]) -> Result<(Vec<Clause>, Goal), Answer> {
+    if areas.iter().any(|area| area.len() < 16387) { Err(only(1)) } else { inputs(profile, book, query) }
 }
 
 fn write(goal: &Goal, area: &mut [u8]) -> u32 {
@@ -60,7 +60,11 @@ fn at(code: u8, clauses: &[Clause], goal: &Goal) -> Answer {
 
 /// "The goal area and the answer area hold the goal and the instance at the closing state" (document 02, C-11).
 pub fn run(book: &[u8], query: &[u8], budget: u32, area: &mut [u8], space: &mut [u8]) -> Answer {
-    let (clauses, goal) = match with_areas(book, query, &[area, space]) {
+    run_in(Profile::Plain, book, query, budget, area, space)
+}
+
+pub fn run_in(profile: Profile, book: &[u8], query: &[u8], budget: u32, area: &mut [u8], space: &mut [u8]) -> Answer {
+    let (clauses, goal) = match with_areas(profile, book, query, &[area, space]) {
         Ok(good) => good,
         Err(answer) => return answer,
     };
@@ -69,8 +73,8 @@ pub fn run(book: &[u8], query: &[u8], budget: u32, area: &mut [u8], space: &mut 
     Answer { steps: state.t, span, bytes, answer, ..at(code, &clauses, &state.goal) }
 }
 
-pub fn step(book: &[u8], query: &[u8], area: &mut [u8]) -> Answer {
-    let (clauses, goal) = match with_areas(book, query, &[area]) {
+pub fn step(profile: Profile, book: &[u8], query: &[u8], area: &mut [u8]) -> Answer {
+    let (clauses, goal) = match with_areas(profile, book, query, &[area]) {
         Ok(good) => good,
         Err(answer) => return answer,
     };
@@ -86,7 +90,7 @@ pub fn step(book: &[u8], query: &[u8], area: &mut [u8]) -> Answer {
 
 /// "The pick answers 20, 22, 26 or else 25 with the clause number; it doesn't look at the next goal's size and never writes; its steps are 0."
 pub fn pick(book: &[u8], query: &[u8]) -> Answer {
-    let (clauses, goal) = match inputs(book, query) {
+    let (clauses, goal) = match inputs(Profile::Plain, book, query) {
         Ok(good) => good,
         Err(answer) => return answer,
     };
@@ -101,7 +105,7 @@ pub fn pick(book: &[u8], query: &[u8]) -> Answer {
 
 /// "Refusals of the apply call, after the input codes: 20 empty goal, 32 no such clause, 33 head doesn't unify, 24; in this order."
 pub fn apply(book: &[u8], query: &[u8], clause: u32, area: &mut [u8]) -> Answer {
-    let (clauses, goal) = match with_areas(book, query, &[area]) {
+    let (clauses, goal) = match with_areas(Profile::Plain, book, query, &[area]) {
         Ok(good) => good,
         Err(answer) => return answer,
     };

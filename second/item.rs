@@ -52,17 +52,31 @@ pub enum Entry {
     Apply,
     PickForC,
     ApplyForC,
+    CheckFlatBook,
+    CheckFlatQuery,
+    FlatStep,
+    FlatRun,
+    FlatBookForC,
+    FlatQueryForC,
+    FlatStepForC,
+    FlatRunForC,
 }
 
 use Entry::*;
-pub const ENTRIES: [Entry; 9] = [CheckBook, CheckQuery, Step, Run, RunForC, Pick, Apply, PickForC, ApplyForC];
+pub const PLAIN: [Entry; 9] = [CheckBook, CheckQuery, Step, Run, RunForC, Pick, Apply, PickForC, ApplyForC];
+pub const FLAT: [Entry; 8] =
+    [CheckFlatBook, CheckFlatQuery, FlatStep, FlatRun, FlatBookForC, FlatQueryForC, FlatStepForC, FlatRunForC];
+
+pub fn entries() -> impl Iterator<Item = Entry> {
+    PLAIN.into_iter().chain(FLAT)
+}
 
 impl Entry {
     /// How many areas it is lent: a run has an answer area behind its goal area.
     pub fn areas(self) -> usize {
         match self {
-            Run | RunForC => 2,
-            Step | Apply | ApplyForC => 1,
+            Run | RunForC | FlatRun | FlatRunForC => 2,
+            Step | Apply | ApplyForC | FlatStep | FlatStepForC => 1,
             _ => 0,
         }
     }
@@ -101,7 +115,7 @@ impl Item {
 
     /// An item from the front of a stream, and the stream after it.
     pub fn read(stream: &[u8]) -> Option<(Item, &[u8])> {
-        let entry = *ENTRIES.iter().find(|e| **e as u8 == stream[0])?;
+        let entry = entries().find(|e| *e as u8 == stream[0])?;
         let length = number(stream.get(1..5)?);
         let (rest, after) = (stream.get(5..5 + length)?, &stream[5 + length..]);
         let none = Area { length: 0, first: 0, more: 0 };

@@ -18,6 +18,7 @@ mod circles;
 mod deep;
 mod dice;
 mod entries;
+mod flat;
 mod growing;
 mod image;
 mod item;

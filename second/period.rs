@@ -2,7 +2,7 @@
 use crate::entries::Answer;
 use crate::item::Case;
 use crate::path::{Next, next_goal};
-use crate::read;
+use crate::read::{self, Profile};
 use crate::tree::{Clause, Formula, Goal, essentially_the_same};
 
 fn stepped(clauses: &[Clause], goal: &Goal) -> Result<Goal, String> {
@@ -36,8 +36,8 @@ fn period(clauses: &[Clause], formula: &Formula, limit: u32) -> Result<u32, Stri
 /// The span is the shortest period of the leftmost formula at the closing state, and of the one at the last save.
 pub fn shortest(case: &Case, a: &Answer) -> Result<(), String> {
     let refused = |_| "a loop that is refused".to_string();
-    let clauses = read::book(&case.book).map_err(refused)?;
-    let query = read::query(&clauses, &case.query).map_err(refused)?;
+    let clauses = read::book(Profile::Plain, &case.book).map_err(refused)?;
+    let query = read::query(Profile::Plain, &clauses, &case.query).map_err(refused)?;
     let saved = walked(&clauses, query, a.steps - a.span)?;
     let closing = walked(&clauses, saved.clone(), a.span)?;
     for goal in [saved, closing] {

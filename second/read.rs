@@ -18,6 +18,13 @@ struct Limits {
 const IN_CLAUSE: Limits = Limits { add: 0, nodes: 256, variables: 64 };
 const IN_QUERY: Limits = Limits { add: 10, nodes: 4096, variables: u32::MAX };
 
+/// Whether compound terms may stand in the input (document 02, C-20).
+#[derive(Clone, Copy, PartialEq)]
+pub enum Profile {
+    Plain,
+    Flat,
+}
+
 /// The arity that each predicate number was met with.
 type Arities = HashMap<u16, usize>;
 
@@ -25,6 +32,7 @@ struct Reader<'a> {
     bytes: &'a [u8],
     at: usize,
     limits: Limits,
+    profile: Profile,
     nodes: u32,
     next: u32,
     arities: Arities,
@@ -41,6 +49,9 @@ impl Reader<'_> {
         let Some(&kind) = self.bytes.get(place) else { return self.bad(2, place) };
         if !allowed.contains(&kind) {
             return self.bad(2, place);
+        }
+        if kind == 3 && self.profile == Profile::Flat {
+            return self.bad(8, place);
         }
         let length = match kind {
             1 | 2 | 6 => 2,
@@ -112,11 +123,11 @@ fn two(body: &[u8]) -> u16 {
     body[0] as u16 * 256 + body[1] as u16
 }
 
-pub fn book(bytes: &[u8]) -> Result<Vec<Clause>, Refusal> {
+pub fn book(profile: Profile, bytes: &[u8]) -> Result<Vec<Clause>, Refusal> {
     if bytes.len() > 32768 {
         return Err(Refusal { code: 5, place: 32768 });
     }
-    let mut reader = Reader { bytes, at: 0, limits: IN_CLAUSE, nodes: 0, next: 0, arities: Arities::new() };
+    let mut reader = Reader { bytes, at: 0, limits: IN_CLAUSE, profile, nodes: 0, next: 0, arities: Arities::new() };
     let mut clauses = Vec::new();
     loop {
         let (place, kind, body) = reader.record(&[5, 7])?;
@@ -145,11 +156,11 @@ fn used(clauses: &[Clause]) -> Arities {
 }
 
 /// A query against the clauses of its book, which is good.
-pub fn query(clauses: &[Clause], bytes: &[u8]) -> Result<Goal, Refusal> {
+pub fn query(profile: Profile, clauses: &[Clause], bytes: &[u8]) -> Result<Goal, Refusal> {
     if bytes.len() > 16387 {
         return Err(Refusal { code: 15, place: 16387 });
     }
-    let mut reader = Reader { bytes, at: 0, limits: IN_QUERY, nodes: 0, next: 0, arities: used(clauses) };
+    let mut reader = Reader { bytes, at: 0, limits: IN_QUERY, profile, nodes: 0, next: 0, arities: used(clauses) };
     let (place, _, body) = reader.record(&[6])?;
     if two(&body) > 512 {
         return reader.bad(4, place);

@@ -5,10 +5,11 @@ use crate::circles;
 use crate::deep;
 use crate::dice::Dice;
 use crate::entries::run;
+use crate::flat;
 use crate::growing;
-use crate::item::{Area, Case, ENTRIES, Entry, Item};
+use crate::item::{Area, Case, Entry, FLAT, Item, PLAIN};
 use crate::list::{self, Line};
-use crate::read;
+use crate::read::{self, Profile};
 use crate::rooms;
 use crate::stuck;
 use crate::table;
@@ -18,7 +19,7 @@ use std::collections::HashSet;
 
 /// The clause numbers that are tried with a book: each from 0 to one past the book's, of a long book the first ones and the last; and the largest number.
 fn clause_numbers(book: &[u8], long: usize) -> Vec<u32> {
-    let count = read::book(book).map_or(0, |clauses| clauses.len() as u32);
+    let count = read::book(Profile::Plain, book).map_or(0, |clauses| clauses.len() as u32);
     let tried = |n: &u32| book.len() < long || *n < 2 || *n + 2 > count;
     (0..=count).filter(tried).chain([u32::MAX]).collect()
 }
@@ -33,13 +34,20 @@ fn at_all_entries(cases: Vec<Case>) -> impl Iterator<Item = Item> {
         Entry::Apply | Entry::ApplyForC => applied(entry, case),
         _ => vec![Item { entry, case: case.clone() }],
     };
-    cases.into_iter().flat_map(move |case| ENTRIES.map(|entry| at(&case, entry))).flatten()
+    cases.into_iter().flat_map(move |case| PLAIN.map(|entry| at(&case, entry))).flatten()
 }
 
 /// The runs alone: the other entries carry no answer.
 fn runs(cases: Vec<Case>) -> impl Iterator<Item = Item> {
     let both = |case: Case| [Entry::Run, Entry::RunForC].map(|entry| Item { entry, case: case.clone() });
     cases.into_iter().flat_map(both)
+}
+
+/// At the entries of the flat profile, and what is left of the case with fewer compound terms.
+fn at_flat_entries(cases: Vec<Case>, dice: &mut Dice) -> Vec<Item> {
+    let both = |case: Case| [flat::made(case.clone(), dice), case];
+    let cases: Vec<Case> = cases.into_iter().flat_map(both).collect();
+    cases.into_iter().flat_map(|case| FLAT.map(|entry| Item { entry, case: case.clone() })).collect()
 }
 
 /// Cut at every byte, with a byte more, and with each byte changed to the kinds and the limits.
@@ -65,6 +73,16 @@ fn damaged(case: &Case) -> Vec<Item> {
     let books = at_every_byte(&case.book).into_iter().map(|book| (Entry::CheckBook, Case { book, ..case.clone() }));
     let queries = at_every_byte(&case.query).into_iter().map(|query| (Entry::CheckQuery, Case { query, ..case.clone() }));
     books.chain(queries).flat_map(|(check, case)| [check, Entry::Run].map(|entry| Item { entry, case: case.clone() })).collect()
+}
+
+/// The same at the checks of the flat profile, of a book and a query with a compound term.
+fn damaged_flat(dice: &mut Dice) -> Vec<Item> {
+    let (book, query) = table::texts("p(f(a,X),X) :- q(b). q(b).", "p(a,f(X,Y)), q(X)");
+    let case = Case { book, query, number: 20, area: Area::usual(dice), answer: Area::usual(dice) };
+    let flat = Case { book: table::texts("p(a,X) :- q(b). q(b).", "").0, ..case.clone() };
+    let books = at_every_byte(&case.book).into_iter().map(|book| (Entry::CheckFlatBook, Case { book, ..case.clone() }));
+    let queries = at_every_byte(&case.query).into_iter().map(|query| (Entry::CheckFlatQuery, Case { query, ..flat.clone() }));
+    books.chain(queries).map(|(entry, case)| Item { entry, case }).collect()
 }
 
 /// A line by the weights.
@@ -138,9 +156,10 @@ fn random_entry(dice: &mut Dice) -> Entry {
 /// The case at one entry, or at several.
 fn random_items(lines: &[Line], dice: &mut Dice) -> Vec<Item> {
     let case = random_case(lines, dice);
-    match dice.below(16) {
+    match dice.below(18) {
         0..2 => around_the_end(&case),
         2 => in_two(&case, dice),
+        3..5 => vec![Item { entry: FLAT[dice.below(8) as usize], case: flat::made(case, dice) }],
         _ => vec![Item { entry: random_entry(dice), case }],
     }
 }
@@ -156,6 +175,9 @@ pub fn long(seed: u64, count: usize) -> Vec<Item> {
     items.extend(at_all_entries(list::cases(list::SMALL, &mut dice)));
     items.extend(at_all_entries(list::cases(list::SIZES, &mut dice)));
     items.extend(runs(list::cases(list::ANSWERS, &mut dice)));
+    items.extend(damaged_flat(&mut dice));
+    let small = list::cases(list::SMALL, &mut dice);
+    items.extend(at_flat_entries(small, &mut dice));
     let lines = list::lines(list::RANDOM);
     while items.len() < count {
         items.extend(random_items(&lines, &mut dice).into_iter().filter(Item::has_room));
@@ -190,6 +212,8 @@ pub fn short() -> Vec<Item> {
     items.extend(at_all_entries(list::cases(list::SMALL, &mut dice)));
     let is_short = |item: &Item| item.case.book.len() + item.case.query.len() < 400;
     items.extend(runs(list::cases(list::ANSWERS, &mut dice)).filter(is_short));
+    let flat = [table::cases(&mut dice), worked::cases(&mut dice)].concat();
+    items.extend(at_flat_entries(flat, &mut dice).into_iter().filter(is_short));
     let lines = list::lines(list::RANDOM);
     let count = items.len() + 300;
     while items.len() < count {

@@ -4,12 +4,12 @@ use crate::build::constant;
 use crate::dice::Dice;
 use crate::image;
 use crate::item::Case;
-use crate::read;
+use crate::read::{self, Profile};
 use crate::tree::Clause;
 
 /// The case with such a book, if its own is good and has a clause. A clause by the dice has the predicate.
 pub fn made(case: Case, dice: &mut Dice) -> Case {
-    let Ok(mut clauses) = read::book(&case.book) else { return case };
+    let Ok(mut clauses) = read::book(Profile::Plain, &case.book) else { return case };
     if clauses.is_empty() {
         return case;
     }

@@ -2,7 +2,7 @@
 use crate::answers;
 use crate::dice::Dice;
 use crate::entries::run;
-use crate::item::{Area, Case, ENTRIES, Entry, Item};
+use crate::item::{Area, Case, Entry, Item, entries};
 use crate::table;
 
 const WORKED: &str = include_str!("lists/worked");
@@ -27,7 +27,7 @@ fn rows(dice: &mut Dice) -> Vec<Row> {
 
 /// The entry of that name.
 fn entry(name: &str) -> Entry {
-    *ENTRIES.iter().find(|entry| format!("{entry:?}").eq_ignore_ascii_case(name)).expect("an entry's name")
+    entries().find(|entry| format!("{entry:?}").eq_ignore_ascii_case(name)).expect("an entry's name")
 }
 
 /// Whether a run of the case leaves the goal and the answer that a text says.

@@ -8,12 +8,12 @@ ghost use mathlib.Core.Bool.{true};
 ghost use Prim.Native.Nat.{_<_};
 ghost use Rattle.outcomes.specs.Outcome.{stepArea, applyArea, runArea, runAnswerArea};
 
-fn number(n: u64) {
+pub fn number(n: u64) {
     io::print_decimal(STDOUT_FILENO, n);
     io::write_all(STDOUT_FILENO, b" ");
 }
 
-fn last(n: u64) {
+pub fn last(n: u64) {
     io::print_decimal(STDOUT_FILENO, n);
     io::write_all(STDOUT_FILENO, b"\n");
 }
@@ -29,7 +29,7 @@ fn added(sum: u64, byte: u8) -> u64 {
 }
 
 // A sum that any one byte changes, and to which each byte adds by its place.
-fn sum(bytes: &[u8]) -> u64 {
+pub fn sum(bytes: &[u8]) -> u64 {
     let mut sum: u64 = 1;
     for i in 0..bytes.len() {
         sum = added(sum, bytes[i]);
@@ -37,7 +37,7 @@ fn sum(bytes: &[u8]) -> u64 {
     sum % 0x8000_0000
 }
 
-fn check(a: Check) -> bool
+pub fn check(a: Check) -> bool
     ensures { λ r. ⌜ r ≡ true ⌝ }
 {
     number(a.code as u64);
@@ -58,7 +58,7 @@ pub fn check_query(book: &[u8], query: &[u8]) -> bool
     check(records::check_query(book, query))
 }
 
-fn stepped(a: Stepped, area: &[u8]) -> bool
+pub fn stepped(a: Stepped, area: &[u8]) -> bool
     ensures { λ r. ⌜ r ≡ true ⌝ }
 {
     number(a.code as u64);
@@ -102,7 +102,7 @@ pub fn pick(book: &[u8], query: &[u8]) -> bool
     true
 }
 
-fn answered(a: Answer, area: &[u8], answer: &[u8]) -> bool
+pub fn answered(a: Answer, area: &[u8], answer: &[u8]) -> bool
     ensures { λ r. ⌜ r ≡ true ⌝ }
 {
     number(a.code as u64);

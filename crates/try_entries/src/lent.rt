@@ -1,7 +1,8 @@
-// The entries that are lent areas, and the check of a query and the picks, which have no use for them. Their items have: a run's budget or an apply's clause number (4 bytes), of
+// The entries that are lent areas, and the checks, but for the plain one of a book, and the picks, which have no use for them. Their items have: a run's budget or an apply's clause number (4 bytes), of
 // which a check, a single step and a pick have no use; the goal area's length (4 bytes), its first byte and what each byte has more than the one before it, modulo
 // 256 (1 byte each); the same of the answer area, of which only a run has use; the book's length (4 bytes), the book, and the query.
 use crate::entries;
+use crate::flat;
 use crate::number;
 ghost use mathlib.Core.Path.{_≡_};
 ghost use mathlib.Core.Bool.{true};
@@ -41,7 +42,15 @@ fn call(
         6 => entries::pick(book, query),
         7 => entries::apply(book, query, number, area),
         8 => entries::pick_for_c(book, query),
-        _ => entries::apply_for_c(book, query, number, area),
+        9 => entries::apply_for_c(book, query, number, area),
+        10 => flat::check_book(book),
+        11 => flat::check_query(book, query),
+        12 => flat::step(book, query, area),
+        13 => flat::run(book, query, number, area, answer),
+        14 => flat::book_for_c(book),
+        15 => flat::query_for_c(book, query),
+        16 => flat::step_for_c(book, query, area),
+        _ => flat::run_for_c(book, query, number, area, answer),
     }
 }
 
