@@ -9,10 +9,11 @@ on_kit() {
     "$@"
 }
 
-# archive: target/staticlib/libengine.a, made anew where a crate has changed since, with the module of which ports/build makes other archives.
+# archive NAME..: target/staticlib/libengine.a, and that of each crate named, made anew where a crate has changed since, with the modules of which ports/build
+# makes other archives.
 archive() {
     built=target/staticlib/libengine.a
-    ports/module engine
+    ports/module engine "$@"
 }
 
 # native_archive: the archive for this machine itself, which valgrind can follow: on another processor than x86-64 that of ports/build.
@@ -41,9 +42,9 @@ for_c() {
     command -v "$compiler" >/dev/null || { echo "there is no $compiler, and it can't be installed"; exit 77; }
 }
 
-# c_program FILE: the program of a C file, linked with the archive in the folder $out, and run.
+# c_program FILE ARCHIVE..: the program of a C file, linked with the engine's archive and others in the folder $out, and run.
 c_program() {
-    "$compiler" -std=c11 -Wall -Wextra -Werror -O2 -Iinclude "$1" target/staticlib/libengine.a -o "$out/program" && "${run[@]}" "$out/program"
+    "$compiler" -std=c11 -Wall -Wextra -Werror -O2 -Iinclude "$@" target/staticlib/libengine.a -o "$out/program" && "${run[@]}" "$out/program"
 }
 
 # needed NAME: how many crates a check of NAME proves, itself and what it is built on.
