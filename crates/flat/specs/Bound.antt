@@ -1,11 +1,11 @@
 -- How few formulas can stand leftmost in a flat run (document 02, C-20), by the counts of predicates and constants and the largest arity.
-use Prim.Native.Nat.{ℕ, zero, suc, _+_, _*_, _^_, _≤_, _<_}
+use Prim.Native.Nat.{ℕ, zero, suc, _+_, _*_, _^_, _≤_}
 use native.Mathlib.Omega.{arith}
 use native.Mathlib.Decide.{decLt}
 use native.Mathlib.Nat.{le-refl, le-trans, pow-zero, pow-suc, pow-le-pow-left, pow-le-pow-right, mul-comm, suc-mul}
-use mathlib.Core.Path.{_≡_, refl, sym as inv, ap, ap₂, _∙_, subst}
+use mathlib.Core.Path.{_≡_, refl, sym as inv, ap, ap₂, _∙_}
 use mathlib.Core.Logic.{inl, inr}
-use mathlib.Core.List.{List, [], _∷_, _++_, map}
+use mathlib.Core.List.{List, [], _∷_, map}
 use lib.ListN.{length, length-append, length-map}
 use Rattle.terms.specs.Node.{Symbol, constant, compound, predicate, arity, sym, Node, Expr}
 use Rattle.loops.specs.Finite.{Listed}

@@ -1,9 +1,9 @@
 -- The run of a flat query (document 02, C-20): "without limits of budget and room a run always says solved, stuck, unknown predicate or loop".
-use Prim.Native.Nat.{ℕ, _≤_, _<_}
+use Prim.Native.Nat.{ℕ, _≤_}
 use native.Mathlib.Decide.{decLt}
 use native.Mathlib.Omega.{arith}
 use mathlib.Core.Path.{_≡_, refl, sym as inv, ap, _∙_, subst}
-use mathlib.Core.Logic.{_⊎_, inl, inr}
+use mathlib.Core.Logic.{inl, inr}
 use mathlib.Core.Option.{some, Option·some-injective, Option·none-ne-some}
 use mathlib.Core.List.{List}
 use Rattle.terms.specs.Node.{Symbol, Expr, same-expr}
@@ -16,7 +16,7 @@ use Rattle.search.specs.Step.{next-goal}
 use Rattle.search.specs.StepLaws.{lawful}
 use Rattle.search.specs.Known.{knows?}
 use Rattle.search.specs.Run.{Closed, close, verdict, run, state-at, Roomy, Closes, code-20, code-21, code-22, code-23, code-24, code-26, Runs}
-use Rattle.search.specs.RunLaws.{state-sound, closing, run-iff, run-runs, runs-step}
+use Rattle.search.specs.RunLaws.{closing, run-iff, run-runs, runs-step}
 use Rattle.flat.specs.Flat.{Flat-goal, Flat-book}
 use Rattle.flat.specs.Theorem.{flat-closes}
 

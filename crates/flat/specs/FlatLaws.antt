@@ -1,11 +1,11 @@
 -- The path of a flat query by a flat book stays flat, and keeps the symbols of the two.
 use Prim.Native.Nat.{ℕ, zero, suc, _+_}
 use native.Mathlib.Nat.{add-zero}
-use mathlib.Core.Path.{_≡_, refl, sym as inv, ap, _∙_, subst}
+use mathlib.Core.Path.{_≡_, refl, sym as inv, _∙_, subst}
 use mathlib.Core.Option.{Option, none, some, Option·some-injective, Option·none-ne-some}
 use mathlib.Core.List.{List, [], _∷_, _++_, map}
-use Rattle.terms.specs.Node.{Symbol, predicate, arity, var, sym, Expr}
-use Rattle.terms.specs.Row.{Row, row-sym, Every}
+use Rattle.terms.specs.Node.{Symbol, predicate, var, sym, Expr}
+use Rattle.terms.specs.Row.{Row, row-sym}
 use Rattle.terms.specs.RowLaws.{every-append, every-map}
 use Rattle.terms.specs.Subst.{Subst, Proper, apply}
 use Rattle.terms.specs.SubstLaws.{apply-row}
@@ -18,7 +18,7 @@ use Rattle.terms.specs.Unify.{unify}
 use Rattle.terms.specs.UnifyLaws.{unify-sound}
 use Rattle.terms.specs.FoundLaws.{Made-of, heads-found}
 use Rattle.loops.specs.Path.{path-zero, path-back}
-use Rattle.search.specs.Next.{Clause, Book, Goal, resolvent}
+use Rattle.search.specs.Next.{Book, Goal}
 use Rattle.search.specs.Step.{even, odd, Choice, later, meet, choice, move, goal-of, next-goal}
 use Rattle.search.specs.Run.{goal-at}
 use Rattle.flat.specs.Flat.{Constant-of, Flat, flat, Flat-goal, Flat-book}

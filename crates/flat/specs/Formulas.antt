@@ -1,14 +1,14 @@
 -- How few flat formulas there are, numbered by first appearance: a finite list of them.
-use Prim.Native.Nat.{ℕ, zero, suc, _+_, _*_, _^_, _<_, _≤_}
+use Prim.Native.Nat.{ℕ, zero, suc, _+_, _<_, _≤_}
 use native.Mathlib.Omega.{arith}
 use native.Mathlib.Nat.{zero-add}
 use native.Mathlib.Decide.{ℕ-discrete}
-use mathlib.Core.Path.{_≡_, refl, sym as inv, ap, ap₂, _∙_, subst}
-use mathlib.Core.Logic.{_⊎_, inl, inr}
+use mathlib.Core.Path.{_≡_, refl, sym as inv, ap, subst}
+use mathlib.Core.Logic.{inl, inr}
 use Rattle.terms.specs.Cases.{cases}
 use mathlib.Core.Bool.{true, false}
 use mathlib.Core.List.{List, [], _∷_, _++_, map, head-eq-of-cons-eq, tail-eq-of-cons-eq}
-use lib.ListN.{length, length-append, length-map}
+use lib.ListN.{length, length-append}
 use lib.Dec.{eqb}
 use Rattle.terms.specs.Node.{Symbol, constant, compound, predicate, Node, var, sym, Expr}
 use Rattle.terms.specs.Row.{Row, row-end, row-var, row-sym}

@@ -1,25 +1,22 @@
 -- What a flat check answers is the first fault, with the compound record's test behind the kind's; or nothing is at fault and there is no compound record.
 use Prim.Native.Nat.{ℕ, zero, suc, _+_, _-_, _≤_, _<_}
 use native.Mathlib.Omega.{arith}
-use native.Mathlib.Decide.{ℕ-discrete, decLt}
+use native.Mathlib.Decide.{ℕ-discrete}
 use borrow.Author.Tests.{lt-ltb, le-ltb, eq-eqb, ne-eqb}
 use mathlib.Core.Path.{_≡_, refl, sym as inv, ap, subst, _∙_}
 use mathlib.Core.Logic.{_⊎_, inl, inr}
-use mathlib.Core.Bool.{true}
-use mathlib.Core.List.{List, [], _∷_, _++_, append-nil, append-assoc}
+use mathlib.Core.List.{List, [], _∷_, _++_, append-nil}
 use lib.ListN.{length, getD, drop, length-append}
 use Rattle.records.specs.declared.Check.{Check}
 use Rattle.records.specs.declared.state.Form.{Form}
 use Rattle.records.specs.declared.state.Form.the-variants.{Book, Query}
 use Rattle.records.specs.declared.record.Record.{Record}
-use Rattle.records.specs.declared.record.Record.the-variants.{Variable, Constant, Compound, Formula, Clause, Goal, End}
-use Rattle.records.specs.Reading.{codeBase, byteLimit, bodyLength, walk, verdict, start}
-use Rattle.records.specs.Format.{recordKind, encodeRecord, encode, Bytes}
-use Rattle.records.specs.Arities.{Use, usesOf, OneArity, Memory, nothing-met, recall}
-use Rattle.records.specs.ArityLaws.{uses-append, one-left}
-use Rattle.records.specs.Faulty.{pair, Complete, Beginning, KindAllowed, Stands, Fails, missing, of-kind, of-cut, of-range, of-size, of-number, of-arity, WithinSizes, GoodUpTo, over-long, at-place}
+use Rattle.records.specs.declared.record.Record.the-variants.{Compound}
+use Rattle.records.specs.Reading.{codeBase, byteLimit, walk, verdict, start}
+use Rattle.records.specs.Format.{encodeRecord, encode, Bytes}
+use Rattle.records.specs.Arities.{Use, OneArity, Memory, nothing-met, recall}
+use Rattle.records.specs.Faulty.{pair, Complete, KindAllowed, Fails, GoodUpTo, over-long, at-place}
 use Rattle.records.proofs.Encoded.{Head, head-of, encoded}
-use Rattle.records.proofs.Failing.{record-length}
 use Rattle.records.proofs.Beginnings.{reach, Reads, beginning-reads, kind-allowed}
 use Rattle.records.proofs.Sizes.{sizes-iff}
 use Rattle.records.proofs.Keeping.{remember, kept-iff}
@@ -29,7 +26,7 @@ use Rattle.records.proofs.Answers.{refuses}
 use Rattle.records.proofs.Refusals.{refused-iff, refused-count, good-records}
 use Rattle.flatness.specs.Plain.{PlainRecords}
 use Rattle.flatness.specs.Faulty.{CompoundStands, FlatFaulty, too-long, of-compound, of-record}
-use Rattle.flatness.specs.Profile.{compoundFrom, allowedUpTo, compoundAt, unlessBefore, flatOf, flatVerdict}
+use Rattle.flatness.specs.Profile.{compoundFrom, allowedUpTo, unlessBefore, flatOf, flatVerdict}
 use Rattle.flatness.proofs.Scanning.{Split, all-plain, first, split, Scan, scan-start, scan-along, scanned-on, scanned-found, scanned-end}
 use Rattle.flatness.proofs.Places.{allowed-past, verdict-within}
 use Rattle.flatness.proofs.Rights.{encode-append, Right, right-up-to, good-before, kind-before, Tells, by-kind, past-kind, tells}

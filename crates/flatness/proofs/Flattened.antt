@@ -1,22 +1,20 @@
 -- Each answer of `flat_of`, from what its tests found; and what the entries make of it.
 use Prim.Native.Nat.{ℕ, _+_, _≤_, _<_}
-use native.Mathlib.Omega.{arith}
 use borrow.Author.Tests.{lt-ltb, le-ltb, eq-eqb, ne-eqb}
-use mathlib.Core.Path.{_≡_, refl, sym as inv, ap, subst, _∙_}
-use mathlib.Core.List.{List, []}
+use mathlib.Core.Path.{_≡_, sym as inv, ap, subst, _∙_}
+use mathlib.Core.List.{List}
 use lib.ListN.{length}
-use Rattle.search.specs.Next as Next
 use Rattle.records.specs.declared.Check.{Check}
 use Rattle.records.specs.declared.state.Form.the-variants.{Book, Query}
 use Rattle.records.specs.declared.record.Record.{Record}
 use Rattle.records.specs.Reading.{verdict, met, bookVerdict, queryVerdict}
-use Rattle.records.specs.Format.{encode, bookRecords, encodeBook, Bytes}
-use Rattle.records.specs.Arities.{Memory, nothing-met, bookUses}
+use Rattle.records.specs.Format.{encode, bookRecords, Bytes}
+use Rattle.records.specs.Arities.{nothing-met, bookUses}
 use Rattle.records.specs.ArityLaws.{book-uses}
 use Rattle.records.specs.Decode.{bookOf}
 use Rattle.records.proofs.Meaning.{query-verdict}
 use Rattle.records.proofs.Decoding.{bookOf-good, bookOf-one}
-use Rattle.flatness.specs.Profile.{compoundFrom, allowedUpTo, compoundAt, flatOf, flatVerdict, bookFlat, queryFlat, counted, uncounted, flatBook}
+use Rattle.flatness.specs.Profile.{compoundFrom, allowedUpTo, compoundAt, flatOf, bookFlat, queryFlat, uncounted, flatBook}
 use Rattle.flatness.specs.Marks.{Image, numbersOf, fresh}
 use Rattle.flatness.specs.Counts.{constantsIn, bookPredicates, bookConstants}
 use Rattle.flatness.specs.CountLaws.{count-one, predicates-counted, constants-counted, numbers, count-by-number}

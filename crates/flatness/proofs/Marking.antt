@@ -1,13 +1,12 @@
 -- Marks set along the records of an image: what is counted is how many distinct numbers there are.
-use Prim.Native.Nat.{ℕ, zero, suc, _+_, _-_, _≤_, _<_}
+use Prim.Native.Nat.{ℕ, suc, _+_, _-_, _≤_, _<_}
 use native.Mathlib.Omega.{arith}
 use native.Mathlib.Nat.{zero-add}
 use native.Mathlib.Decide.{ℕ-discrete}
 use borrow.Author.Tests.{eq-eqb, ne-eqb, eqb-true, eqb-false}
 use mathlib.Core.Path.{_≡_, refl, sym as inv, ap, subst, _∙_}
 use mathlib.Core.Logic.{_↔_, _⊎_, inl, inr}
-use mathlib.Core.Bool.{true, false}
-use mathlib.Core.List.{List, [], _∷_, _++_, append-nil}
+use mathlib.Core.List.{List, [], _∷_, _++_}
 use lib.ListN.{length, getD, set, drop, length-drop}
 use lib.Dec.{eqb}
 use Rattle.terms.specs.Node.{constant, compound, predicate, var, sym, Expr}
@@ -19,7 +18,7 @@ use Rattle.loops.specs.Finite.{Listed}
 use Rattle.records.specs.declared.record.Record.{Record}
 use Rattle.records.specs.declared.record.Record.the-variants.{Variable, Constant, Compound, Formula, Clause, Goal, End}
 use Rattle.records.specs.Reading.{bodyLength, numberAt, recordAt}
-use Rattle.records.specs.Format.{recordKind, encodeRecord, encode, nodeRecords, bookRecords}
+use Rattle.records.specs.Format.{recordKind, encode, nodeRecords, bookRecords}
 use Rattle.records.specs.Arities.{Memory, nothing-met, meet, recalled, usesOf}
 use Rattle.records.specs.ArityLaws.{meet-same, meet-other, recalled-set}
 use Rattle.records.proofs.Encoded.{Encoded, encoded}

@@ -1,9 +1,8 @@
 -- A good flat query by its good flat book: its path stays flat and keeps the symbols of the two, and its run without limits closes.
-use Prim.Native.Nat.{ℕ, suc, _≤_}
-use native.Mathlib.Omega.{arith}
+use Prim.Native.Nat.{ℕ, _≤_}
 use native.Mathlib.Nat.{zero-add}
 use mathlib.Core.Path.{_≡_, refl, sym as inv, ap, subst, _∙_}
-use mathlib.Core.Logic.{_⊎_, inl, inr}
+use mathlib.Core.Logic.{inl, inr}
 use mathlib.Core.Option.{some}
 use mathlib.Core.List.{List, [], _∷_, _++_, map}
 use Rattle.terms.specs.Node.{Symbol, constant, compound, predicate, var, sym, Expr}
@@ -23,12 +22,11 @@ use Rattle.records.specs.declared.state.Form.the-variants.{Book}
 use Rattle.records.specs.Format.{Terms, terms-none, terms-var, terms-constant, terms-compound, IsFormula, formula, AreFormulas, GoodClauses, GoodBook, GoodGoal, Bytes}
 use Rattle.records.specs.Arities.{Use, use-of, nodeUses, goalUses, bookUses}
 use Rattle.records.specs.Decode.{bookOf, goalOf}
-use Rattle.records.proofs.Premises.{goal-premises}
 use Rattle.records.proofs.Decoding.{bookOf-image, goalOf-image}
 use Rattle.records.proofs.Meaning.{one-none}
 use Rattle.flatness.specs.Plain.{PlainNodes, PlainGoal, PlainBook}
 use Rattle.flatness.specs.Counts.{nodeConstants, constantsIn}
-use Rattle.flatness.specs.Profile.{bookFlat, queryFlat}
+use Rattle.flatness.specs.Profile.{queryFlat}
 use Rattle.flatness.proofs.Refusals.{flat-good-iff, query-flat-book, query-flat-good-iff}
 
 abbrev pub symbolOf : Use → Symbol

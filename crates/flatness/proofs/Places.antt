@@ -3,14 +3,11 @@ use Prim.Native.Nat.{ℕ, zero, suc, _+_, _-_, _≤_, _<_}
 use native.Mathlib.Omega.{arith}
 use native.Mathlib.Decide.{decLt}
 use borrow.Author.Tests.{lt-ltb, le-ltb, eq-eqb, ne-eqb}
-use mathlib.Core.Path.{_≡_, refl, sym as inv, ap, subst, _∙_}
-use mathlib.Core.Logic.{_⊎_, inl, inr}
-use mathlib.Core.Bool.{true, false}
+use mathlib.Core.Path.{_≡_, refl, subst}
+use mathlib.Core.Bool.{true}
 use mathlib.Core.List.{List}
 use lib.ListN.{length, getD}
-use lib.Dec.{eqb}
 use Rattle.terms.specs.Cases.{cases}
-use Rattle.terms.specs.When.{_⇒_∣_}
 use Rattle.records.specs.declared.Check.{Check}
 use Rattle.records.specs.declared.state.State.{State}
 use Rattle.records.specs.declared.state.Form.{Form}
@@ -18,7 +15,7 @@ use Rattle.records.specs.declared.judging.Fault.{Fault}
 use Rattle.records.specs.declared.judging.Fault.the-variants.{Kind, Cut, Range, Size, Number, Arity}
 use Rattle.records.specs.declared.judging.Judged.{Judged}
 use Rattle.records.specs.declared.judging.Judged.the-variants.{Next, Bad}
-use Rattle.records.specs.Reading.{codeBase, byteLimit, faultNumber, refused, bodyLength, recordAt, allowed, judge, whole, finish, walk, verdict, start}
+use Rattle.records.specs.Reading.{codeBase, byteLimit, faultNumber, refused, bodyLength, allowed, judge, whole, finish, walk, verdict, start}
 use Rattle.records.specs.Arities.{Memory}
 use Rattle.records.proofs.Taken.{taken}
 use Rattle.records.proofs.Going.{metAt, walk-next, walk-bad, walk-end}

@@ -4,7 +4,7 @@ use Prim.Native.Nat.{ℕ, _≤_}
 use native.Mathlib.Omega.{arith}
 use native.Mathlib.Decide.{ℕ-discrete}
 use borrow.Author.Tests.{eq-eqb, ne-eqb, eqb-true, eqb-false}
-use mathlib.Core.Path.{_≡_, refl, sym as inv, ap, subst, _∙_}
+use mathlib.Core.Path.{_≡_, sym as inv, ap, subst, _∙_}
 use mathlib.Core.Logic.{_↔_, _⊎_, inl, inr}
 use mathlib.Core.List.{List, [], _∷_, _++_}
 use lib.ListN.{length}
@@ -17,9 +17,9 @@ use Rattle.records.specs.declared.Check.{Check}
 use Rattle.records.specs.declared.state.Form.{Form}
 use Rattle.records.specs.declared.state.Form.the-variants.{Book, Query}
 use Rattle.records.specs.declared.record.Record.{Record}
-use Rattle.records.specs.Reading.{verdict, met, bookVerdict, queryVerdict}
-use Rattle.records.specs.Format.{encode, nodeRecords, bookRecords, goalRecords, encodeBook, encodeGoal, GoodBook, GoodGoal, Bytes}
-use Rattle.records.specs.Arities.{Use, bookUses, goalUses, OneArity, Memory, nothing-met, recall}
+use Rattle.records.specs.Reading.{verdict, bookVerdict, queryVerdict}
+use Rattle.records.specs.Format.{encode, nodeRecords, bookRecords, goalRecords, Bytes}
+use Rattle.records.specs.Arities.{Use, bookUses, OneArity, Memory, nothing-met, recall}
 use Rattle.records.specs.Decode.{bookOf}
 use Rattle.records.specs.Faulty.{pair}
 use Rattle.records.proofs.Failing.{fails-code}

@@ -1,35 +1,18 @@
 -- Records that stand before a place with nothing wrong, and what a fault behind them tells.
-use Prim.Native.Nat.{ℕ, zero, suc, _+_, _-_, _≤_, _<_}
+use Prim.Native.Nat.{ℕ, _+_, _-_, _<_}
 use native.Mathlib.Omega.{arith}
-use native.Mathlib.Decide.{ℕ-discrete, decLt}
-use borrow.Author.Tests.{lt-ltb, le-ltb, eq-eqb, ne-eqb}
 use mathlib.Core.Path.{_≡_, refl, sym as inv, ap, subst, _∙_}
-use mathlib.Core.Logic.{_⊎_, inl, inr}
-use mathlib.Core.Bool.{true}
-use mathlib.Core.List.{List, [], _∷_, _++_, append-nil, append-assoc}
-use lib.ListN.{length, getD, drop, length-append}
-use Rattle.records.specs.declared.Check.{Check}
+use mathlib.Core.List.{List, [], _∷_, _++_, append-assoc}
+use lib.ListN.{length}
 use Rattle.records.specs.declared.state.Form.{Form}
 use Rattle.records.specs.declared.state.Form.the-variants.{Book, Query}
 use Rattle.records.specs.declared.record.Record.{Record}
 use Rattle.records.specs.declared.record.Record.the-variants.{Variable, Constant, Compound, Formula, Clause, Goal, End}
-use Rattle.records.specs.Reading.{codeBase, byteLimit, bodyLength, walk, verdict, start}
-use Rattle.records.specs.Format.{recordKind, encodeRecord, encode, Bytes}
-use Rattle.records.specs.Arities.{Use, usesOf, OneArity, Memory, nothing-met, recall}
+use Rattle.records.specs.Format.{recordKind, encodeRecord, encode}
+use Rattle.records.specs.Arities.{Use, usesOf, OneArity}
 use Rattle.records.specs.ArityLaws.{uses-append, one-left}
-use Rattle.records.specs.Faulty.{pair, Complete, Beginning, KindAllowed, Stands, Fails, missing, of-kind, of-cut, of-range, of-size, of-number, of-arity, WithinSizes, GoodUpTo, over-long, at-place}
-use Rattle.records.proofs.Encoded.{Head, head-of, encoded}
-use Rattle.records.proofs.Failing.{record-length}
-use Rattle.records.proofs.Beginnings.{reach, Reads, beginning-reads, kind-allowed}
-use Rattle.records.proofs.Sizes.{sizes-iff}
-use Rattle.records.proofs.Keeping.{remember, kept-iff}
-use Rattle.records.proofs.Going.{Going, going-start}
-use Rattle.records.proofs.Standing.{going-along}
-use Rattle.records.proofs.Answers.{refuses}
-use Rattle.records.proofs.Refusals.{refused-iff, refused-count, good-records}
-use Rattle.flatness.specs.Plain.{PlainRecords}
-use Rattle.flatness.specs.Faulty.{CompoundStands, FlatFaulty, too-long, of-compound, of-record}
-use Rattle.flatness.specs.Profile.{compoundFrom, allowedUpTo, compoundAt, unlessBefore, flatOf, flatVerdict}
+use Rattle.records.specs.Faulty.{pair, Complete, Beginning, KindAllowed, Fails, missing, of-kind, of-cut, of-range, of-size, of-number, of-arity, WithinSizes, GoodUpTo}
+use Rattle.flatness.specs.Faulty.{CompoundStands}
 
 -- Records that stand before a place
 

@@ -1,19 +1,17 @@
 -- How many distinct things a list has is one number; and what is computed is that number.
-use Prim.Native.Nat.{ℕ, zero, suc, _+_, _≤_, _<_}
+use Prim.Native.Nat.{ℕ, suc, _≤_}
 use native.Mathlib.Omega.{arith}
-use native.Mathlib.Decide.{ℕ-discrete}
-use borrow.Author.Tests.{eq-eqb, ne-eqb, eqb-true}
+use borrow.Author.Tests.{eq-eqb, eqb-true}
 use mathlib.Core.Path.{_≡_, refl, sym as inv, ap, subst, _∙_}
-use mathlib.Core.Logic.{_↔_, _⊎_, inl, inr}
-use mathlib.Core.Bool.{Bool, true, false, _&&_, _||_}
-use mathlib.Core.List.{List, [], _∷_, _++_, map}
-use lib.ListN.{length, length-map, length-append}
+use mathlib.Core.Logic.{_↔_, inl, inr}
+use mathlib.Core.Bool.{Bool, true, false}
+use mathlib.Core.List.{List, [], _∷_, map}
+use lib.ListN.{length, length-map}
 use lib.Dec.{eqb}
-use Rattle.terms.specs.Node.{constant, compound, predicate, var, sym, Expr}
 use Rattle.terms.specs.Cases.{cases}
 use Rattle.loops.specs.Finite.{Listed}
 use Rattle.search.specs.Next as Next
-use Rattle.records.specs.Arities.{Use, use-of, Used, OneArity, bookUses}
+use Rattle.records.specs.Arities.{Use, Used, OneArity, bookUses}
 use Rattle.flatness.specs.Counts.{Apart, Count, among, distinct, sameUse, constantsIn, bookPredicates, bookConstants}
 
 -- One number

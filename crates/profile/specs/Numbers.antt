@@ -1,29 +1,25 @@
 -- How big the figures of the flat checks are: each part has room in the number for C.
-use Prim.Native.Nat.{ℕ, suc, _+_, _^_, _≤_, _<_}
+use Prim.Native.Nat.{ℕ, _^_, _≤_, _<_}
 use native.Mathlib.Omega.{arith}
 use native.Mathlib.Decide.{ℕ-discrete}
 use borrow.Author.Tests.{eq-eqb, ne-eqb}
-use mathlib.Core.Path.{_≡_, refl, sym as inv, ap, subst, _∙_}
-use mathlib.Core.List.{List, [], _∷_, _++_}
-use lib.ListN.{length, length-append}
-use Rattle.search.specs.Next as Next
+use mathlib.Core.Path.{_≡_, sym as inv, ap, _∙_}
+use mathlib.Core.List.{List, [], _∷_}
+use lib.ListN.{length}
 use Rattle.search.specs.Room.{nodes}
 use Rattle.records.specs.declared.Check.{Check}
 use Rattle.records.specs.declared.state.Form.the-variants.{Book}
 use Rattle.records.specs.declared.record.Record.{Record}
 use Rattle.records.specs.declared.record.Record.the-variants.{Variable, Constant, Compound, Formula, Clause, Goal, End}
-use Rattle.records.specs.Reading.{bookVerdict, queryVerdict}
-use Rattle.records.specs.Format.{encodeRecord, encode, bookRecords, Bytes}
-use Rattle.records.specs.Arities.{bookUses, usesOf}
+use Rattle.records.specs.Format.{encode, bookRecords, Bytes}
+use Rattle.records.specs.Arities.{usesOf}
 use Rattle.records.specs.ArityLaws.{book-uses}
 use Rattle.records.specs.Decode.{bookOf}
-use Rattle.records.proofs.Meaning.{one-none, good, book-read, query-read}
+use Rattle.records.proofs.Meaning.{one-none, book-read, query-read}
 use Rattle.records.proofs.Decoding.{bookOf-good}
-use Rattle.flatness.specs.declared.FlatBook.{FlatBook}
-use Rattle.flatness.specs.Counts.{constantsIn, bookPredicates, bookConstants}
 use Rattle.flatness.specs.CountLaws.{predicates-few, constants-few}
 use Rattle.flatness.specs.Marks.{numbersOf}
-use Rattle.flatness.specs.Profile.{bookFlat, queryFlat, counted, uncounted, flatBook}
+use Rattle.flatness.specs.Profile.{bookFlat, queryFlat, counted, flatBook}
 use Rattle.flatness.proofs.Refusals.{book-flat-good, flat-taken, query-flat-book, query-flat-is, query-flat-count}
 use Rattle.flatness.proofs.Marking.{book-numbers-2}
 use Rattle.profile.specs.Outcome.{BookNarrow, QueryNarrow}

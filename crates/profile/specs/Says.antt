@@ -23,7 +23,7 @@ use Rattle.flatness.proofs.Paths as Paths
 use Rattle.flatness.proofs.Paths.{predicatesOf, constantsOf, FlatPair, pair-of}
 use Rattle.engine.specs.declared.admit.Admitted.{Admitted}
 use Rattle.engine.specs.declared.Answer.{Answer}
-use Rattle.engine.specs.Outcome.{refusal, room, closing}
+use Rattle.engine.specs.Outcome.{room, closing}
 use Rattle.engine.specs.Refusals.{both-decide}
 use Rattle.engine.specs.Running.{answer-taken}
 use Rattle.engine.specs.Figures as Figures

@@ -1,11 +1,10 @@
 -- The ways out of each entry of the flat profile, refused or not, and how big its figures are.
-use Prim.Native.Nat.{ℕ, _+_, _*_, _^_, _≤_, _<_}
+use Prim.Native.Nat.{ℕ, _≤_, _<_}
 use native.Mathlib.Omega.{arith}
 use native.Mathlib.Decide.{ℕ-discrete}
 use borrow.Author.Tests.{lt-ltb, le-ltb, ltb-true, ltb-false, eq-eqb, ne-eqb, eqb-true}
-use mathlib.Core.Path.{_≡_, refl, sym as inv, ap, subst, _∙_}
-use mathlib.Core.Bool.{Bool, true, false}
-use mathlib.Core.List.{List, []}
+use mathlib.Core.Path.{_≡_, refl, sym as inv, ap, _∙_}
+use mathlib.Core.List.{List}
 use lib.ListN.{length}
 use lib.Dec.{eqb, ltb}
 use Rattle.terms.specs.Cases.{cases}
@@ -13,24 +12,22 @@ use Rattle.search.specs.Step.{Step, solved, stuck, to, next-from}
 use Rattle.search.specs.Room.{fits}
 use Rattle.search.specs.Known.{stuck-code}
 use Rattle.search.specs.Furthest.{Figures, figures}
-use Rattle.search.specs.Single.{if-fits, single}
+use Rattle.search.specs.Single.{single}
 use Rattle.records.specs.declared.Check.{Check}
-use Rattle.records.specs.declared.state.Form.{Form}
 use Rattle.records.specs.declared.state.Form.the-variants.{Book, Query}
-use Rattle.records.specs.Reading.{codeBase, byteLimit, verdict, met, bookVerdict, queryVerdict}
+use Rattle.records.specs.Reading.{verdict, met, bookVerdict}
 use Rattle.records.specs.Format.{Bytes}
 use Rattle.records.specs.Arities.{nothing-met}
 use Rattle.records.specs.Decode.{bookOf, goalOf}
 use Rattle.records.proofs.Meaning.{query-verdict}
 use Rattle.areas.proofs.Places.{book-place, query-place}
-use Rattle.flatness.specs.Profile.{compoundFrom, allowedUpTo, flatOf, flatVerdict, bookFlat, queryFlat}
+use Rattle.flatness.specs.Profile.{compoundFrom, allowedUpTo, flatOf, bookFlat, queryFlat}
 use Rattle.flatness.proofs.Places.{verdict-within}
 use Rattle.flatness.proofs.Flattened.{of-long, of-found, of-none}
-use Rattle.flatness.proofs.Refusals.{book-flat-good, query-flat-book, query-flat-is}
+use Rattle.flatness.proofs.Refusals.{book-flat-good}
 use Rattle.engine.specs.declared.admit.Admitted.{Admitted}
 use Rattle.engine.specs.declared.Answer.{Answer}
-use Rattle.engine.specs.declared.Stepped.{Stepped}
-use Rattle.engine.specs.Outcome.{refusal, room, refused, stepped, stepRefused, stepSaid, runAnswer, runArea, runAnswerArea, stepAnswer, stepArea}
+use Rattle.engine.specs.Outcome.{refusal, room, refused, stepped, stepRefused, runAnswer, runArea, runAnswerArea, stepAnswer, stepArea}
 use Rattle.engine.specs.Refusals.{area-short}
 use Rattle.engine.specs.Running as Running
 use Rattle.engine.specs.Stepping as Stepping
