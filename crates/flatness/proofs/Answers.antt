@@ -7,23 +7,23 @@ use mathlib.Core.Path.{_≡_, refl, sym as inv, ap, subst, _∙_}
 use mathlib.Core.Logic.{_⊎_, inl, inr}
 use mathlib.Core.List.{List, [], _∷_, _++_, append-nil}
 use lib.ListN.{length, getD, drop, length-append}
-use Rattle.records.specs.declared.Check.{Check}
-use Rattle.records.specs.declared.state.Form.{Form}
-use Rattle.records.specs.declared.state.Form.the-variants.{Book, Query}
-use Rattle.records.specs.declared.record.Record.{Record}
-use Rattle.records.specs.declared.record.Record.the-variants.{Compound}
-use Rattle.records.specs.Reading.{codeBase, byteLimit, walk, verdict, start}
-use Rattle.records.specs.Format.{encodeRecord, encode, Bytes}
-use Rattle.records.specs.Arities.{Use, OneArity, Memory, nothing-met, recall}
-use Rattle.records.specs.Faulty.{pair, Complete, KindAllowed, Fails, GoodUpTo, over-long, at-place}
-use Rattle.records.proofs.Encoded.{Head, head-of, encoded}
-use Rattle.records.proofs.Beginnings.{reach, Reads, beginning-reads, kind-allowed}
-use Rattle.records.proofs.Sizes.{sizes-iff}
-use Rattle.records.proofs.Keeping.{remember, kept-iff}
-use Rattle.records.proofs.Going.{Going, going-start}
-use Rattle.records.proofs.Standing.{going-along}
-use Rattle.records.proofs.Answers.{refuses}
-use Rattle.records.proofs.Refusals.{refused-iff, refused-count, good-records}
+use Rattle.format.specs.declared.Check.{Check}
+use Rattle.format.specs.declared.Form.{Form}
+use Rattle.format.specs.declared.Form.the-variants.{Book, Query}
+use Rattle.format.specs.declared.Record.{Record}
+use Rattle.format.specs.declared.Record.the-variants.{Compound}
+use Rattle.format.specs.Reading.{codeBase, byteLimit, walk, verdict, start}
+use Rattle.format.specs.Format.{encodeRecord, encode, Bytes}
+use Rattle.format.specs.Arities.{Use, OneArity, Memory, nothing-met, recall}
+use Rattle.format.specs.Faulty.{pair, Complete, KindAllowed, Fails, GoodUpTo, over-long, at-place}
+use Rattle.format.proofs.Encoded.{Head, head-of, encoded}
+use Rattle.format.proofs.Beginnings.{reach, Reads, beginning-reads, kind-allowed}
+use Rattle.format.proofs.Sizes.{sizes-iff}
+use Rattle.format.proofs.Keeping.{remember, kept-iff}
+use Rattle.format.proofs.Going.{Going, going-start}
+use Rattle.format.proofs.Standing.{going-along}
+use Rattle.format.proofs.Answers.{refuses}
+use Rattle.format.proofs.Refusals.{refused-iff, refused-count, good-records}
 use Rattle.flatness.specs.Plain.{PlainRecords}
 use Rattle.flatness.specs.Faulty.{CompoundStands, FlatFaulty, too-long, of-compound, of-record}
 use Rattle.flatness.specs.Profile.{compoundFrom, allowedUpTo, unlessBefore, flatOf, flatVerdict}

@@ -4,16 +4,16 @@ use borrow.Author.Tests.{lt-ltb, le-ltb, eq-eqb, ne-eqb}
 use mathlib.Core.Path.{_≡_, sym as inv, ap, subst, _∙_}
 use mathlib.Core.List.{List}
 use lib.ListN.{length}
-use Rattle.records.specs.declared.Check.{Check}
-use Rattle.records.specs.declared.state.Form.the-variants.{Book, Query}
-use Rattle.records.specs.declared.record.Record.{Record}
-use Rattle.records.specs.Reading.{verdict, met, bookVerdict, queryVerdict}
-use Rattle.records.specs.Format.{encode, bookRecords, Bytes}
-use Rattle.records.specs.Arities.{nothing-met, bookUses}
-use Rattle.records.specs.ArityLaws.{book-uses}
-use Rattle.records.specs.Decode.{bookOf}
-use Rattle.records.proofs.Meaning.{query-verdict}
-use Rattle.records.proofs.Decoding.{bookOf-good, bookOf-one}
+use Rattle.format.specs.declared.Check.{Check}
+use Rattle.format.specs.declared.Form.the-variants.{Book, Query}
+use Rattle.format.specs.declared.Record.{Record}
+use Rattle.format.specs.Reading.{verdict, met, bookVerdict, queryVerdict}
+use Rattle.format.specs.Format.{encode, bookRecords, Bytes}
+use Rattle.format.specs.Arities.{nothing-met, bookUses}
+use Rattle.format.specs.ArityLaws.{book-uses}
+use Rattle.format.specs.Decode.{bookOf}
+use Rattle.format.proofs.Meaning.{query-verdict}
+use Rattle.format.proofs.Decoding.{bookOf-good, bookOf-one}
 use Rattle.flatness.specs.Profile.{compoundFrom, allowedUpTo, compoundAt, flatOf, bookFlat, queryFlat, uncounted, flatBook}
 use Rattle.flatness.specs.Marks.{Image, numbersOf, fresh}
 use Rattle.flatness.specs.Counts.{constantsIn, bookPredicates, bookConstants}

@@ -15,13 +15,13 @@ use Rattle.search.specs.Next as Next
 use Rattle.words.specs.Flat.{flat}
 use Rattle.terms.specs.When.{_⇒_∣_}
 use Rattle.loops.specs.Finite.{Listed}
-use Rattle.records.specs.declared.record.Record.{Record}
-use Rattle.records.specs.declared.record.Record.the-variants.{Variable, Constant, Compound, Formula, Clause, Goal, End}
-use Rattle.records.specs.Reading.{bodyLength, numberAt, recordAt}
-use Rattle.records.specs.Format.{recordKind, encode, nodeRecords, bookRecords}
-use Rattle.records.specs.Arities.{Memory, nothing-met, meet, recalled, usesOf}
-use Rattle.records.specs.ArityLaws.{meet-same, meet-other, recalled-set}
-use Rattle.records.proofs.Encoded.{Encoded, encoded}
+use Rattle.format.specs.declared.Record.{Record}
+use Rattle.format.specs.declared.Record.the-variants.{Variable, Constant, Compound, Formula, Clause, Goal, End}
+use Rattle.format.specs.Reading.{bodyLength, numberAt, recordAt}
+use Rattle.format.specs.Format.{recordKind, encode, nodeRecords, bookRecords}
+use Rattle.format.specs.Arities.{Memory, nothing-met, meet, recalled, usesOf}
+use Rattle.format.specs.ArityLaws.{meet-same, meet-other, recalled-set}
+use Rattle.format.proofs.Encoded.{Encoded, encoded}
 use Rattle.flatness.proofs.Refusals.{one-row}
 use Rattle.flatness.specs.Counts.{Apart, Count, nodeConstants, constantsIn}
 use Rattle.flatness.specs.CountLaws.{numbers}

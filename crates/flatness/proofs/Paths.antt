@@ -18,12 +18,12 @@ use Rattle.flat.specs.FlatLaws.{path-flat}
 use Rattle.flat.specs.Formulas.{listed-left, listed-right, listed-map}
 use Rattle.flat.specs.Closing as Closing
 use Rattle.flat.specs.Closing.{Settled}
-use Rattle.records.specs.declared.state.Form.the-variants.{Book}
-use Rattle.records.specs.Format.{Terms, terms-none, terms-var, terms-constant, terms-compound, IsFormula, formula, AreFormulas, GoodClauses, GoodBook, GoodGoal, Bytes}
-use Rattle.records.specs.Arities.{Use, use-of, nodeUses, goalUses, bookUses}
-use Rattle.records.specs.Decode.{bookOf, goalOf}
-use Rattle.records.proofs.Decoding.{bookOf-image, goalOf-image}
-use Rattle.records.proofs.Meaning.{one-none}
+use Rattle.format.specs.declared.Form.the-variants.{Book}
+use Rattle.format.specs.Format.{Terms, terms-none, terms-var, terms-constant, terms-compound, IsFormula, formula, AreFormulas, GoodClauses, GoodBook, GoodGoal, Bytes}
+use Rattle.format.specs.Arities.{Use, use-of, nodeUses, goalUses, bookUses}
+use Rattle.format.specs.Decode.{bookOf, goalOf}
+use Rattle.format.proofs.Decoding.{bookOf-image, goalOf-image}
+use Rattle.format.proofs.Meaning.{one-none}
 use Rattle.flatness.specs.Plain.{PlainNodes, PlainGoal, PlainBook}
 use Rattle.flatness.specs.Counts.{nodeConstants, constantsIn}
 use Rattle.flatness.specs.Profile.{queryFlat}

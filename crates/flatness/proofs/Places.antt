@@ -8,18 +8,18 @@ use mathlib.Core.Bool.{true}
 use mathlib.Core.List.{List}
 use lib.ListN.{length, getD}
 use Rattle.terms.specs.Cases.{cases}
-use Rattle.records.specs.declared.Check.{Check}
-use Rattle.records.specs.declared.state.State.{State}
-use Rattle.records.specs.declared.state.Form.{Form}
-use Rattle.records.specs.declared.judging.Fault.{Fault}
-use Rattle.records.specs.declared.judging.Fault.the-variants.{Kind, Cut, Range, Size, Number, Arity}
-use Rattle.records.specs.declared.judging.Judged.{Judged}
-use Rattle.records.specs.declared.judging.Judged.the-variants.{Next, Bad}
-use Rattle.records.specs.Reading.{codeBase, byteLimit, faultNumber, refused, bodyLength, allowed, judge, whole, finish, walk, verdict, start}
-use Rattle.records.specs.Arities.{Memory}
-use Rattle.records.proofs.Taken.{taken}
-use Rattle.records.proofs.Going.{metAt, walk-next, walk-bad, walk-end}
-use Rattle.records.proofs.Tested.{Looked, kind-failed, cut-failed, whole-record, looked, range-failed, size-failed, number-failed, arity-failed}
+use Rattle.format.specs.declared.Check.{Check}
+use Rattle.format.specs.declared.State.{State}
+use Rattle.format.specs.declared.Form.{Form}
+use Rattle.format.specs.declared.Fault.{Fault}
+use Rattle.format.specs.declared.Fault.the-variants.{Kind, Cut, Range, Size, Number, Arity}
+use Rattle.format.specs.declared.Judged.{Judged}
+use Rattle.format.specs.declared.Judged.the-variants.{Next, Bad}
+use Rattle.format.specs.Reading.{codeBase, byteLimit, faultNumber, refused, bodyLength, allowed, judge, whole, finish, walk, verdict, start}
+use Rattle.format.specs.Arities.{Memory}
+use Rattle.format.proofs.Taken.{taken}
+use Rattle.format.proofs.Going.{metAt, walk-next, walk-bad, walk-end}
+use Rattle.format.proofs.Tested.{Looked, kind-failed, cut-failed, whole-record, looked, range-failed, size-failed, number-failed, arity-failed}
 use Rattle.flatness.specs.Profile.{allowedUpTo}
 
 module _ (form : Form) (s : List ℕ) where

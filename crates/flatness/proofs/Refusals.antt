@@ -13,19 +13,19 @@ use Rattle.terms.specs.Node.{constant, compound, predicate, var, sym, Expr}
 use Rattle.terms.specs.Cases.{cases}
 use Rattle.search.specs.Next as Next
 use Rattle.words.specs.Flat.{flat}
-use Rattle.records.specs.declared.Check.{Check}
-use Rattle.records.specs.declared.state.Form.{Form}
-use Rattle.records.specs.declared.state.Form.the-variants.{Book, Query}
-use Rattle.records.specs.declared.record.Record.{Record}
-use Rattle.records.specs.Reading.{verdict, bookVerdict, queryVerdict}
-use Rattle.records.specs.Format.{encode, nodeRecords, bookRecords, goalRecords, Bytes}
-use Rattle.records.specs.Arities.{Use, bookUses, OneArity, Memory, nothing-met, recall}
-use Rattle.records.specs.Decode.{bookOf}
-use Rattle.records.specs.Faulty.{pair}
-use Rattle.records.proofs.Failing.{fails-code}
-use Rattle.records.proofs.Meaning.{one-none, query-verdict}
-use Rattle.records.proofs.Refusals.{good-iff, good-records}
-use Rattle.records.proofs.Decoding.{records-back, bookOf-one, met-is}
+use Rattle.format.specs.declared.Check.{Check}
+use Rattle.format.specs.declared.Form.{Form}
+use Rattle.format.specs.declared.Form.the-variants.{Book, Query}
+use Rattle.format.specs.declared.Record.{Record}
+use Rattle.format.specs.Reading.{verdict, bookVerdict, queryVerdict}
+use Rattle.format.specs.Format.{encode, nodeRecords, bookRecords, goalRecords, Bytes}
+use Rattle.format.specs.Arities.{Use, bookUses, OneArity, Memory, nothing-met, recall}
+use Rattle.format.specs.Decode.{bookOf}
+use Rattle.format.specs.Faulty.{pair}
+use Rattle.format.proofs.Failing.{fails-code}
+use Rattle.format.proofs.Meaning.{one-none, query-verdict}
+use Rattle.format.proofs.Refusals.{good-iff, good-records}
+use Rattle.format.proofs.Decoding.{records-back, bookOf-one, met-is}
 use Rattle.flatness.specs.Plain.{PlainRecords, PlainNodes, PlainGoal, PlainBook}
 use Rattle.flatness.specs.Faulty.{FlatFaulty, too-long, of-compound, of-record, FlatGood}
 use Rattle.flatness.specs.Profile.{flatVerdict, bookFlat, queryFlat}

@@ -4,14 +4,14 @@ use native.Mathlib.Omega.{arith}
 use mathlib.Core.Path.{_≡_, refl, sym as inv, ap, subst, _∙_}
 use mathlib.Core.List.{List, [], _∷_, _++_, append-assoc}
 use lib.ListN.{length}
-use Rattle.records.specs.declared.state.Form.{Form}
-use Rattle.records.specs.declared.state.Form.the-variants.{Book, Query}
-use Rattle.records.specs.declared.record.Record.{Record}
-use Rattle.records.specs.declared.record.Record.the-variants.{Variable, Constant, Compound, Formula, Clause, Goal, End}
-use Rattle.records.specs.Format.{recordKind, encodeRecord, encode}
-use Rattle.records.specs.Arities.{Use, usesOf, OneArity}
-use Rattle.records.specs.ArityLaws.{uses-append, one-left}
-use Rattle.records.specs.Faulty.{pair, Complete, Beginning, KindAllowed, Fails, missing, of-kind, of-cut, of-range, of-size, of-number, of-arity, WithinSizes, GoodUpTo}
+use Rattle.format.specs.declared.Form.{Form}
+use Rattle.format.specs.declared.Form.the-variants.{Book, Query}
+use Rattle.format.specs.declared.Record.{Record}
+use Rattle.format.specs.declared.Record.the-variants.{Variable, Constant, Compound, Formula, Clause, Goal, End}
+use Rattle.format.specs.Format.{recordKind, encodeRecord, encode}
+use Rattle.format.specs.Arities.{Use, usesOf, OneArity}
+use Rattle.format.specs.ArityLaws.{uses-append, one-left}
+use Rattle.format.specs.Faulty.{pair, Complete, Beginning, KindAllowed, Fails, missing, of-kind, of-cut, of-range, of-size, of-number, of-arity, WithinSizes, GoodUpTo}
 use Rattle.flatness.specs.Faulty.{CompoundStands}
 
 -- Records that stand before a place

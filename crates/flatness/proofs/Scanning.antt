@@ -6,13 +6,13 @@ use mathlib.Core.Path.{_≡_, refl, sym as inv, ap, subst, _∙_}
 use mathlib.Core.List.{List, [], _∷_, _++_, append-assoc}
 use lib.ListN.{length, getD, drop, length-append}
 use lib.Dec.{eqb, leb}
-use Rattle.records.specs.declared.record.Record.{Record}
-use Rattle.records.specs.declared.record.Record.the-variants.{Variable, Constant, Compound, Formula, Clause, Goal, End}
-use Rattle.records.specs.Reading.{bodyLength}
-use Rattle.records.specs.Format.{recordKind, encodeRecord, encode}
-use Rattle.records.proofs.Encoded.{encoded}
-use Rattle.records.proofs.Taken.{pick-small}
-use Rattle.records.proofs.Failing.{record-length}
+use Rattle.format.specs.declared.Record.{Record}
+use Rattle.format.specs.declared.Record.the-variants.{Variable, Constant, Compound, Formula, Clause, Goal, End}
+use Rattle.format.specs.Reading.{bodyLength}
+use Rattle.format.specs.Format.{recordKind, encodeRecord, encode}
+use Rattle.format.proofs.Encoded.{encoded}
+use Rattle.format.proofs.Taken.{pick-small}
+use Rattle.format.proofs.Failing.{record-length}
 use Rattle.flatness.specs.Plain.{NotCompound, PlainRecords}
 use Rattle.flatness.specs.Profile.{compoundFrom}
 

@@ -2,10 +2,10 @@
 use Prim.Native.Nat.{ℕ}
 use mathlib.Core.Path.{_≡_, refl}
 use mathlib.Core.List.{List, [], _∷_}
-use Rattle.records.specs.declared.Check.{Check}
-use Rattle.records.specs.Reading.{bodyLength, numberAt, recordAt, nextUnused, after, allowed, inRange, inSize, inOrder, judgeRecord, judge, whole, finish, walk, metFrom, verdict}
-use Rattle.records.specs.Arities.{meet, keeps}
-use Rattle.records.specs.Decode.{bookOf}
+use Rattle.format.specs.declared.Check.{Check}
+use Rattle.format.specs.Reading.{bodyLength, numberAt, recordAt, nextUnused, after, allowed, inRange, inSize, inOrder, judgeRecord, judge, whole, finish, walk, metFrom, verdict}
+use Rattle.format.specs.Arities.{meet, keeps}
+use Rattle.format.specs.Decode.{bookOf}
 use Rattle.flatness.specs.declared.FlatBook.{FlatBook}
 use Rattle.flatness.specs.Counts.{bookPredicates, bookConstants}
 use Rattle.flatness.specs.Profile.{compoundFrom, flatOf, queryFlat, flatBook}

@@ -11,7 +11,7 @@ use lib.Dec.{eqb}
 use Rattle.terms.specs.Cases.{cases}
 use Rattle.loops.specs.Finite.{Listed}
 use Rattle.search.specs.Next as Next
-use Rattle.records.specs.Arities.{Use, Used, OneArity, bookUses}
+use Rattle.format.specs.Arities.{Use, Used, OneArity, bookUses}
 use Rattle.flatness.specs.Counts.{Apart, Count, among, distinct, sameUse, constantsIn, bookPredicates, bookConstants}
 
 -- One number

@@ -11,7 +11,7 @@ use Rattle.terms.specs.When.{_⇒_∣_}
 use Rattle.loops.specs.Finite.{Listed}
 use Rattle.search.specs.Next as Next
 use Rattle.words.specs.Flat.{flat}
-use Rattle.records.specs.Arities.{Use, bookUses}
+use Rattle.format.specs.Arities.{Use, bookUses}
 
 -- What "how many distinct" means
 

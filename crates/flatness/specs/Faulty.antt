@@ -5,12 +5,12 @@ use mathlib.Core.Path.{_≡_}
 use mathlib.Core.List.{List, _∷_, _++_}
 use lib.ListN.{length}
 use Rattle.search.specs.Next as Next
-use Rattle.records.specs.declared.state.Form.{Form}
-use Rattle.records.specs.declared.state.Form.the-variants.{Book, Query}
-use Rattle.records.specs.declared.record.Record.{Record}
-use Rattle.records.specs.Format.{encodeBook, encodeGoal, GoodBook, GoodGoal}
-use Rattle.records.specs.Arities.{Use, bookUses, goalUses, OneArity}
-use Rattle.records.specs.Faulty.{pair, KindAllowed, Fails, GoodUpTo}
+use Rattle.format.specs.declared.Form.{Form}
+use Rattle.format.specs.declared.Form.the-variants.{Book, Query}
+use Rattle.format.specs.declared.Record.{Record}
+use Rattle.format.specs.Format.{encodeBook, encodeGoal, GoodBook, GoodGoal}
+use Rattle.format.specs.Arities.{Use, bookUses, goalUses, OneArity}
+use Rattle.format.specs.Faulty.{pair, KindAllowed, Fails, GoodUpTo}
 use Rattle.flatness.specs.Plain.{PlainRecords, PlainBook, PlainGoal}
 
 -- the kind byte of a compound term stands behind rs, where a term is due: what stands behind the byte is not looked at

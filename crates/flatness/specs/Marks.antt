@@ -6,11 +6,11 @@ use mathlib.Core.List.{List, [], _∷_}
 use lib.ListN.{length, getD}
 use lib.Dec.{eqb}
 use Rattle.terms.specs.When.{_⇒_∣_}
-use Rattle.records.specs.declared.record.Record.{Record}
-use Rattle.records.specs.declared.record.Record.the-variants.{Variable, Constant, Compound, Formula, Clause, Goal, End}
-use Rattle.records.specs.Reading.{numberAt}
-use Rattle.records.specs.Format.{recordKind, encode}
-use Rattle.records.specs.Arities.{Memory, meet}
+use Rattle.format.specs.declared.Record.{Record}
+use Rattle.format.specs.declared.Record.the-variants.{Variable, Constant, Compound, Formula, Clause, Goal, End}
+use Rattle.format.specs.Reading.{numberAt}
+use Rattle.format.specs.Format.{recordKind, encode}
+use Rattle.format.specs.Arities.{Memory, meet}
 
 -- the number of a constant or of a formula's predicate
 abbrev pub numberOf : Record → ℕ

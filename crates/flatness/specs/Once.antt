@@ -2,7 +2,7 @@
 use mathlib.Core.Path.{_≡_, sym, _∙_}
 use mathlib.Core.List.{List}
 use Prim.Native.Nat.{ℕ}
-use Rattle.records.specs.declared.Check.{Check}
+use Rattle.format.specs.declared.Check.{Check}
 use Rattle.flatness.specs.declared.FlatBook.{FlatBook}
 use Rattle.flatness.specs.Profile.{flatBook, queryFlat}
 

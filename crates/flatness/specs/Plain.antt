@@ -3,8 +3,8 @@ use mathlib.Core.List.{List, [], _∷_}
 use Rattle.terms.specs.Node.{constant, compound, predicate, var, sym, Expr}
 use Rattle.search.specs.Next as Next
 use Rattle.words.specs.Flat.{flat}
-use Rattle.records.specs.declared.record.Record.{Record}
-use Rattle.records.specs.declared.record.Record.the-variants.{Variable, Constant, Compound, Formula, Clause, Goal, End}
+use Rattle.format.specs.declared.Record.{Record}
+use Rattle.format.specs.declared.Record.the-variants.{Variable, Constant, Compound, Formula, Clause, Goal, End}
 
 abbrev pub NotCompound : Record → Type 0
 NotCompound (Variable v) = Unit {0}

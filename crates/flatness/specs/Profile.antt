@@ -5,12 +5,12 @@ use lib.ListN.{length, getD}
 use lib.Dec.{eqb, leb, ltb}
 use Rattle.terms.specs.When.{_⇒_∣_}
 use Rattle.search.specs.Next as Next
-use Rattle.records.specs.declared.Check.{Check}
-use Rattle.records.specs.declared.state.Form.{Form}
-use Rattle.records.specs.declared.state.Form.the-variants.{Book, Query}
-use Rattle.records.specs.Reading.{bodyLength, codeBase, byteLimit, verdict, met}
-use Rattle.records.specs.Arities.{Memory, nothing-met}
-use Rattle.records.specs.Decode.{bookOf}
+use Rattle.format.specs.declared.Check.{Check}
+use Rattle.format.specs.declared.Form.{Form}
+use Rattle.format.specs.declared.Form.the-variants.{Book, Query}
+use Rattle.format.specs.Reading.{bodyLength, codeBase, byteLimit, verdict, met}
+use Rattle.format.specs.Arities.{Memory, nothing-met}
+use Rattle.format.specs.Decode.{bookOf}
 use Rattle.flatness.specs.declared.FlatBook.{FlatBook}
 use Rattle.flatness.specs.Counts.{bookPredicates, bookConstants}
 

@@ -6,10 +6,10 @@ ghost use mathlib.Core.Logic.{_⊎_};
 ghost use mathlib.Core.List.{List};
 ghost use Prim.Native.Nat.{_+_, _<_};
 ghost use lib.ListN.{length, getD};
-ghost use Rattle.records.specs.declared.record.Record.{Record};
-ghost use Rattle.records.specs.Reading.{bodyLength};
-ghost use Rattle.records.specs.Format.{encode};
-ghost use Rattle.records.specs.Arities.{nothing-met, recalled};
+ghost use Rattle.format.specs.declared.Record.{Record};
+ghost use Rattle.format.specs.Reading.{bodyLength};
+ghost use Rattle.format.specs.Format.{encode};
+ghost use Rattle.format.specs.Arities.{nothing-met, recalled};
 ghost use Rattle.flatness.specs.Marks.{numbersOf, fresh, marked, newOnes, Image};
 
 // Marks the number of the record at a place, and answers 1, where the record is of the kind and its number has no mark; otherwise 0.

@@ -1,6 +1,6 @@
 // The flat profile (document 02, C-20): books and queries of "constants and variables only", checked and counted.
 use crate::counting::count;
-use records::Check;
+use format::Check;
 use records::check_book;
 use records::check_query;
 use records::record::body_length;

@@ -3,7 +3,7 @@ use Prim.Native.Nat.{ℕ, _+_, _*_, _^_}
 use native.Mathlib.Omega.{arith}
 use borrow.Author.Tests.{eq-eqb, ne-eqb}
 use mathlib.Core.Path.{_≡_, _∙_}
-use Rattle.records.specs.declared.Check.{Check}
+use Rattle.format.specs.declared.Check.{Check}
 use Rattle.flatness.specs.declared.FlatBook.{FlatBook}
 use Rattle.profile.specs.Outcome.{flatBookNumber, flatQueryNumber}
 

@@ -9,19 +9,19 @@ use mathlib.Core.List.{List}
 use lib.ListN.{length}
 use lib.Dec.{ltb}
 use Rattle.terms.specs.Cases.{cases}
-use Rattle.records.specs.declared.Check.{Check}
-use Rattle.records.specs.declared.state.Form.the-variants.{Query}
-use Rattle.records.specs.Reading.{verdict, met, bookVerdict}
-use Rattle.records.specs.Format.{Bytes}
-use Rattle.records.proofs.Meaning.{query-verdict}
-use Rattle.records.proofs.Codes.{Coded, book-coded, query-coded}
+use Rattle.format.specs.declared.Check.{Check}
+use Rattle.format.specs.declared.Form.the-variants.{Query}
+use Rattle.format.specs.Reading.{verdict, met, bookVerdict}
+use Rattle.format.specs.Format.{Bytes}
+use Rattle.format.proofs.Meaning.{query-verdict}
+use Rattle.format.proofs.Codes.{Coded, book-coded, query-coded}
 use Rattle.flatness.specs.Profile.{compoundFrom, allowedUpTo, flatOf, bookFlat, queryFlat}
 use Rattle.flatness.proofs.Flattened.{of-long, of-found, of-none}
 use Rattle.flatness.proofs.Refusals.{book-flat-good, query-flat-refused}
-use Rattle.engine.specs.Outcome.{room}
-use Rattle.engine.specs.Figures.{RunCode}
-use Rattle.engine.specs.Listed as Plain
-use Rattle.engine.specs.Listed.{Listed, StepCode, step-listed, run-listed}
+use Rattle.outcomes.specs.Outcome.{room}
+use Rattle.outcomes.specs.Figures.{RunCode}
+use Rattle.outcomes.specs.Listed as Plain
+use Rattle.outcomes.specs.Listed.{Listed, StepCode, step-listed, run-listed}
 use Rattle.profile.specs.Outcome.{flatRefusal, flatRunAnswer, flatStepAnswer}
 use Rattle.profile.specs.Ways.{short-area, by-checks, run-taken, run-refused, step-taken, step-refused}
 

@@ -7,16 +7,16 @@ use mathlib.Core.Path.{_≡_, sym as inv, ap, _∙_}
 use mathlib.Core.List.{List, [], _∷_}
 use lib.ListN.{length}
 use Rattle.search.specs.Room.{nodes}
-use Rattle.records.specs.declared.Check.{Check}
-use Rattle.records.specs.declared.state.Form.the-variants.{Book}
-use Rattle.records.specs.declared.record.Record.{Record}
-use Rattle.records.specs.declared.record.Record.the-variants.{Variable, Constant, Compound, Formula, Clause, Goal, End}
-use Rattle.records.specs.Format.{encode, bookRecords, Bytes}
-use Rattle.records.specs.Arities.{usesOf}
-use Rattle.records.specs.ArityLaws.{book-uses}
-use Rattle.records.specs.Decode.{bookOf}
-use Rattle.records.proofs.Meaning.{one-none, book-read, query-read}
-use Rattle.records.proofs.Decoding.{bookOf-good}
+use Rattle.format.specs.declared.Check.{Check}
+use Rattle.format.specs.declared.Form.the-variants.{Book}
+use Rattle.format.specs.declared.Record.{Record}
+use Rattle.format.specs.declared.Record.the-variants.{Variable, Constant, Compound, Formula, Clause, Goal, End}
+use Rattle.format.specs.Format.{encode, bookRecords, Bytes}
+use Rattle.format.specs.Arities.{usesOf}
+use Rattle.format.specs.ArityLaws.{book-uses}
+use Rattle.format.specs.Decode.{bookOf}
+use Rattle.format.proofs.Meaning.{one-none, book-read, query-read}
+use Rattle.format.proofs.Decoding.{bookOf-good}
 use Rattle.flatness.specs.CountLaws.{predicates-few, constants-few}
 use Rattle.flatness.specs.Marks.{numbersOf}
 use Rattle.flatness.specs.Profile.{bookFlat, queryFlat, counted, flatBook}

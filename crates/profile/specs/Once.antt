@@ -2,10 +2,10 @@
 use Prim.Native.Nat.{ℕ}
 use mathlib.Core.Path.{_≡_, sym as inv, _∙_}
 use mathlib.Core.List.{List}
-use Rattle.engine.specs.declared.Answer.{Answer}
-use Rattle.engine.specs.declared.Stepped.{Stepped}
-use Rattle.engine.specs.Firmware.{number}
-use Rattle.engine.specs.CallNumbers.{applyNumber}
+use Rattle.outcomes.specs.declared.Answer.{Answer}
+use Rattle.outcomes.specs.declared.Stepped.{Stepped}
+use Rattle.outcomes.specs.Firmware.{number}
+use Rattle.outcomes.specs.CallNumbers.{applyNumber}
 use Rattle.flatness.specs.Profile.{flatBook, queryFlat}
 use Rattle.profile.specs.Outcome.{flatRunAnswer, flatRunArea, flatRunAnswerArea, flatStepAnswer, flatStepArea, flatBookNumber, flatQueryNumber}
 

@@ -5,13 +5,13 @@ use mathlib.Core.List.{List}
 use lib.ListN.{length}
 use lib.Dec.{eqb, ltb}
 use Rattle.terms.specs.When.{_⇒_∣_}
-use Rattle.records.specs.declared.Check.{Check}
+use Rattle.format.specs.declared.Check.{Check}
 use Rattle.flatness.specs.declared.FlatBook.{FlatBook}
 use Rattle.flatness.specs.Profile.{queryFlat}
-use Rattle.engine.specs.declared.admit.Admitted.{Admitted}
-use Rattle.engine.specs.declared.Answer.{Answer}
-use Rattle.engine.specs.declared.Stepped.{Stepped}
-use Rattle.engine.specs.Outcome.{room, refused, stepRefused, runAnswer, runArea, runAnswerArea, stepAnswer, stepArea}
+use Rattle.outcomes.specs.declared.admit.Admitted.{Admitted}
+use Rattle.outcomes.specs.declared.Answer.{Answer}
+use Rattle.outcomes.specs.declared.Stepped.{Stepped}
+use Rattle.outcomes.specs.Outcome.{room, refused, stepRefused, runAnswer, runArea, runAnswerArea, stepAnswer, stepArea}
 
 -- "Order: area; whole book; whole query.", with the flat checks
 unfoldable pub flatRefusal : List ℕ → List ℕ → ℕ → Admitted

@@ -13,21 +13,21 @@ use Rattle.search.specs.AnswerLaws.{answered-runs}
 use Rattle.search.specs.AnswerRuns.{answered-run}
 use Rattle.flat.specs.Flat.{Flat-goal}
 use Rattle.flat.specs.Closing.{Settled, settled-20, settled-21, settled-22, settled-26}
-use Rattle.records.specs.declared.Check.{Check}
-use Rattle.records.specs.Reading.{queryVerdict}
-use Rattle.records.specs.Format.{Bytes}
-use Rattle.records.specs.Decode.{bookOf, goalOf}
+use Rattle.format.specs.declared.Check.{Check}
+use Rattle.format.specs.Reading.{queryVerdict}
+use Rattle.format.specs.Format.{Bytes}
+use Rattle.format.specs.Decode.{bookOf, goalOf}
 use Rattle.flatness.specs.Profile.{queryFlat}
 use Rattle.flatness.proofs.Refusals.{query-flat-book, query-flat-is}
 use Rattle.flatness.proofs.Paths as Paths
 use Rattle.flatness.proofs.Paths.{predicatesOf, constantsOf, FlatPair, pair-of}
-use Rattle.engine.specs.declared.admit.Admitted.{Admitted}
-use Rattle.engine.specs.declared.Answer.{Answer}
-use Rattle.engine.specs.Outcome.{room, closing}
-use Rattle.engine.specs.Refusals.{both-decide}
-use Rattle.engine.specs.Running.{answer-taken}
-use Rattle.engine.specs.Figures as Figures
-use Rattle.engine.specs.Figures.{RunCode, run-codes}
+use Rattle.outcomes.specs.declared.admit.Admitted.{Admitted}
+use Rattle.outcomes.specs.declared.Answer.{Answer}
+use Rattle.outcomes.specs.Outcome.{room, closing}
+use Rattle.outcomes.specs.Refusals.{both-decide}
+use Rattle.outcomes.specs.Running.{answer-taken}
+use Rattle.outcomes.specs.Figures as Figures
+use Rattle.outcomes.specs.Figures.{RunCode, run-codes}
 use Rattle.profile.specs.Outcome.{flatRunAnswer}
 use Rattle.profile.specs.Ways.{by-checks, run-taken}
 

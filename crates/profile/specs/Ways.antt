@@ -13,27 +13,27 @@ use Rattle.search.specs.Room.{fits}
 use Rattle.search.specs.Known.{stuck-code}
 use Rattle.search.specs.Furthest.{Figures, figures}
 use Rattle.search.specs.Single.{single}
-use Rattle.records.specs.declared.Check.{Check}
-use Rattle.records.specs.declared.state.Form.the-variants.{Book, Query}
-use Rattle.records.specs.Reading.{verdict, met, bookVerdict}
-use Rattle.records.specs.Format.{Bytes}
-use Rattle.records.specs.Arities.{nothing-met}
-use Rattle.records.specs.Decode.{bookOf, goalOf}
-use Rattle.records.proofs.Meaning.{query-verdict}
+use Rattle.format.specs.declared.Check.{Check}
+use Rattle.format.specs.declared.Form.the-variants.{Book, Query}
+use Rattle.format.specs.Reading.{verdict, met, bookVerdict}
+use Rattle.format.specs.Format.{Bytes}
+use Rattle.format.specs.Arities.{nothing-met}
+use Rattle.format.specs.Decode.{bookOf, goalOf}
+use Rattle.format.proofs.Meaning.{query-verdict}
 use Rattle.areas.proofs.Places.{book-place, query-place}
 use Rattle.flatness.specs.Profile.{compoundFrom, allowedUpTo, flatOf, bookFlat, queryFlat}
 use Rattle.flatness.proofs.Places.{verdict-within}
 use Rattle.flatness.proofs.Flattened.{of-long, of-found, of-none}
 use Rattle.flatness.proofs.Refusals.{book-flat-good}
-use Rattle.engine.specs.declared.admit.Admitted.{Admitted}
-use Rattle.engine.specs.declared.Answer.{Answer}
-use Rattle.engine.specs.Outcome.{refusal, room, refused, stepped, stepRefused, runAnswer, runArea, runAnswerArea, stepAnswer, stepArea}
-use Rattle.engine.specs.Refusals.{area-short}
-use Rattle.engine.specs.Running as Running
-use Rattle.engine.specs.Stepping as Stepping
-use Rattle.engine.specs.Figures.{run-narrow, refusal-low, image-short}
-use Rattle.engine.specs.Firmware.{Narrow}
-use Rattle.engine.specs.CallNumbers.{ApplyNarrow}
+use Rattle.outcomes.specs.declared.admit.Admitted.{Admitted}
+use Rattle.outcomes.specs.declared.Answer.{Answer}
+use Rattle.outcomes.specs.Outcome.{refusal, room, refused, stepped, stepRefused, runAnswer, runArea, runAnswerArea, stepAnswer, stepArea}
+use Rattle.outcomes.specs.Refusals.{area-short}
+use Rattle.outcomes.specs.Running as Running
+use Rattle.outcomes.specs.Stepping as Stepping
+use Rattle.outcomes.specs.Figures.{run-narrow, refusal-low, image-short}
+use Rattle.outcomes.specs.Firmware.{Narrow}
+use Rattle.outcomes.specs.CallNumbers.{ApplyNarrow}
 use Rattle.profile.specs.Outcome.{flatRefusal, flatRunAnswer, flatRunArea, flatRunAnswerArea, flatStepAnswer, flatStepArea}
 
 -- Refusals

@@ -1,16 +1,16 @@
 // The flat profile for C firmware. A step and a run have the numbers that the plain ones have.
 use crate::flat_run;
 use crate::flat_step;
-use engine::firmware::applied_number;
-use engine::firmware::number;
-use engine::firmware::pack;
+use engine::applied_number;
+use engine::number;
+use engine::pack;
 use flatness::FlatBook;
 use flatness::check_flat_book;
 use flatness::check_flat_query;
-use records::Check;
+use format::Check;
 ghost use mathlib.Core.Path.{_≡_};
-ghost use Rattle.engine.specs.Firmware.{number};
-ghost use Rattle.engine.specs.CallNumbers.{applyNumber};
+ghost use Rattle.outcomes.specs.Firmware.{number};
+ghost use Rattle.outcomes.specs.CallNumbers.{applyNumber};
 ghost use Rattle.flatness.specs.Profile.{flatBook, queryFlat};
 ghost use Rattle.profile.specs.Outcome.{flatStepAnswer, flatStepArea, flatRunAnswer, flatRunArea, flatRunAnswerArea, flatBookNumber, flatQueryNumber, BookNarrow, QueryNarrow};
 

@@ -1,15 +1,15 @@
 // The entries of the flat profile (document 02, C-20): the single step and the run behind the flat checks; for C firmware too. Each takes any arguments
 // and refuses what is not good.
-use engine::Answer;
-use engine::Stepped;
-use engine::admit::Admitted;
-use engine::run::refused;
-use engine::run::run;
-use engine::run::shorter;
-use engine::step::not_stepped;
-use engine::step::step;
 use flatness::check_flat_query;
-use records::Check;
+use format::Check;
+use outcomes::Answer;
+use outcomes::Stepped;
+use outcomes::admit::Admitted;
+use running::refused;
+use running::run;
+use running::shorter;
+use stepping::step::not_stepped;
+use stepping::step::step;
 ghost use mathlib.Core.Path.{_≡_};
 ghost use Prim.Native.Nat.{_≤_};
 ghost use Rattle.profile.specs.Outcome.{flatStepAnswer, flatStepArea, flatRunAnswer, flatRunArea, flatRunAnswerArea};

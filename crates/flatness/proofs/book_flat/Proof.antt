@@ -2,7 +2,7 @@
 use borrow.Author.Needs.{needs}
 use native.Mathlib.Omega.{arith}
 use mathlib.Core.Path.{ap, _∙_}
-use Rattle.records.specs.declared.Check.{Check}
+use Rattle.format.specs.declared.Check.{Check}
 use Rattle.flatness.specs.Profile.{flatOf}
 use Rattle.flatness.proofs.Flattened.{book-within}
 use Rattle.flatness.proofs.book_flat.Statement.{statement}

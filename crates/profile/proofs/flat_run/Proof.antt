@@ -2,9 +2,9 @@
 use borrow.Author.Needs.{needs}
 use native.Mathlib.Omega.{arith}
 use mathlib.Core.Path.{sym as inv, ap, _∙_}
-use Rattle.records.specs.declared.Check.{Check}
-use Rattle.engine.specs.declared.admit.Admitted.{Admitted}
-use Rattle.engine.specs.Outcome.{refused}
+use Rattle.format.specs.declared.Check.{Check}
+use Rattle.outcomes.specs.declared.admit.Admitted.{Admitted}
+use Rattle.outcomes.specs.Outcome.{refused}
 use Rattle.profile.specs.Ways.{by-found, code-found, query-flat-place, run-short, run-taken, run-area-taken, run-answer-area-taken, run-refused, run-area-kept, run-answer-area-kept}
 use Rattle.profile.proofs.flat_run.Statement.{statement}
 use Rattle.profile.proofs.flat_run.Tie as tie

@@ -5,7 +5,7 @@ use Prim.Native.Nat.{_≤_, _-_}
 use mathlib.Core.Path.{_≡_}
 use mathlib.Core.Logic.{_⊎_}
 use lib.ListN.{length}
-use Rattle.records.specs.Arities.{recalled}
+use Rattle.format.specs.Arities.{recalled}
 use Rattle.flatness.proofs.Marking.{Counting, counting-start, counting-body, counting-next, counting-end, counts, new-one}
 use Rattle.flatness.proofs.counting.count_marked.Statement.{statement}
 use Rattle.flatness.proofs.counting.count_marked.Tie as tie
