@@ -8,9 +8,6 @@ use Rattle.flatness.proofs.Flattened.{book-within}
 use Rattle.flatness.proofs.book_flat.Statement.{statement}
 use Rattle.flatness.proofs.book_flat.Tie as tie
 
-check-book-requires : tie.Need-check-book-requires
-check-book-requires c κs = search needs
-
 flat-of-requires : tie.Need-flat-of-requires
 flat-of-requires c κs = ((omega arith, omega arith), book-within _ _ (c .check-book .ensures))
 
@@ -18,4 +15,4 @@ returns : tie.Need-returns
 returns c = c .flat-of .ensures ∙ ap (λ (r : Check). flatOf 0 32768 r (c .before .before .before .args .book .now)) (c .before .check-book .ensures)
 
 pub book-flat-spec : {M : Type 1} → statement M
-book-flat-spec = tie.close (tie.spec check-book-requires flat-of-requires returns)
+book-flat-spec = tie.close (tie.spec (λ c κs. search needs) flat-of-requires returns)

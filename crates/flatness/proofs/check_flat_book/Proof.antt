@@ -7,9 +7,6 @@ use Rattle.flatness.proofs.Flattened.{image-of, counted-is, uncounted-i
 use Rattle.flatness.proofs.check_flat_book.Statement.{statement}
 use Rattle.flatness.proofs.check_flat_book.Tie as tie
 
-book-flat-requires : tie.Need-book-flat-requires
-book-flat-requires c κs = search needs
-
 count-requires : tie.Need-count-requires
 count-requires c κs = (inr refl, image-of _ (λ i. omega (arith, c .before .before .before .shared-slice-known .given i)) _ (c .before .before .book-flat .ensures) (c .if1 .taken))
 
@@ -24,4 +21,4 @@ returns-2 c = uncounted-is _ _ (c .before .before .book-flat .ensures) (c .if1 .
 
 pub check-flat-book-spec : {M : Type 1} → statement M
 check-flat-book-spec =
-    tie.close (tie.spec book-flat-requires count-requires count-requires-2 returns returns-2)
+    tie.close (tie.spec (λ c κs. search needs) count-requires count-requires-2 returns returns-2)

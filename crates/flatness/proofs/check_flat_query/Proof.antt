@@ -5,12 +5,6 @@ use Rattle.flatness.proofs.Flattened.{by-book, by-query, query-within}
 use Rattle.flatness.proofs.check_flat_query.Statement.{statement}
 use Rattle.flatness.proofs.check_flat_query.Tie as tie
 
-book-flat-requires : tie.Need-book-flat-requires
-book-flat-requires c κs = search needs
-
-check-query-requires : tie.Need-check-query-requires
-check-query-requires c κs = search needs
-
 flat-of-requires : tie.Need-flat-of-requires
 flat-of-requires c κs = ((omega arith, omega arith), query-within _ _ (λ i. omega (arith, c .before .before .before .before .before .shared-slice-known .given i)) _ (c .before .before .before .book-flat .ensures) (c .before .if1 .taken) _ (c .check-query .ensures))
 
@@ -22,4 +16,4 @@ returns-2 c = by-book _ _ _ (c .before .before .book-flat .ensures) (c .if1 .lef
 
 pub check-flat-query-spec : {M : Type 1} → statement M
 check-flat-query-spec =
-    tie.close (tie.spec book-flat-requires check-query-requires flat-of-requires returns returns-2)
+    tie.close (tie.spec (λ c κs. search needs) (λ c κs. search needs) flat-of-requires returns returns-2)

@@ -17,23 +17,11 @@ abbrev μ-loop : tie.MeasureT-loop
 loop-holds : tie.Need-loop-holds Inv-loop μ-loop
 loop-holds c = (scan-start _ _, search needs, search needs)
 
-shared-slice-read-kind : tie.Need-shared-slice-read-kind Inv-loop μ-loop
-shared-slice-read-kind c = search needs
-
 returns : tie.Need-returns Inv-loop μ-loop
 returns c = let l = c .before .before .before .loop in scanned-found _ _ (l .inv .1) _ (l .inv .0) (c .before .before .loop-test .taken) (c .if1 .taken)
 
-add-at : tie.Need-add-at Inv-loop μ-loop
-add-at c = search needs
-
-body-length-requires : tie.Need-body-length-requires Inv-loop μ-loop
-body-length-requires c κs = search needs
-
 add-at-2 : tie.Need-add-at-2 Inv-loop μ-loop
 add-at-2 c = record { fits = omega (arith, c .body-length .ensures, body-small (getD (c .before .before .before .before .before .before .args .bytes .now) (c .before .before .before .before .loop .at) 0), c .before .before .before .before .loop .inv .1, c .before .before .before .before .loop .inv .2, c .before .before .before .loop-test .taken) }
-
-loop-less : tie.Need-loop-less Inv-loop μ-loop
-loop-less c = search needs
 
 loop-again : tie.Need-loop-again Inv-loop μ-loop
 loop-again c =
@@ -50,11 +38,11 @@ first-compound-spec =
     Inv-loop
     μ-loop
     loop-holds
-    shared-slice-read-kind
+    (λ c. search needs)
     returns
-    add-at
-    body-length-requires
+    (λ c. search needs)
+    (λ c κs. search needs)
     add-at-2
-    loop-less
+    (λ c. search needs)
     loop-again
     returns-2)

@@ -14,9 +14,6 @@ allowed-up-to-requires c κs = let z = c .before .before in (z .pre .0 .0, omega
 first-compound-requires : tie.Need-first-compound-requires
 first-compound-requires c κs = let z = c .before .before .before in (rw (c .allowed-up-to .ensures) (z .pre .1 (c .before .if1 .left)), omega (arith, c .before .if1 .left, z .pre .0 .1))
 
-add-t9 : tie.Need-add-t9
-add-t9 c = search needs
-
 returns-2 : tie.Need-returns-2
 returns-2 c = of-found _ _ _ _ (c .before .before .before .if1 .left) _ _ (c .before .before .allowed-up-to .ensures) (c .before .first-compound .ensures) (c .if2 .taken)
 
@@ -26,4 +23,4 @@ returns-3 c = of-none _ _ _ _ (c .before .before .before .if1 .left) _ _ (c .bef
 pub flat-of-spec : {M : Type 1} → statement M
 flat-of-spec =
     tie.close
-    (tie.spec returns allowed-up-to-requires first-compound-requires add-t9 returns-2 returns-3)
+    (tie.spec returns allowed-up-to-requires first-compound-requires (λ c. search needs) returns-2 returns-3)

@@ -9,35 +9,11 @@ use Rattle.profile.specs.Ways.{by-found, code-found, query-flat-place, r
 use Rattle.profile.proofs.flat_run.Statement.{statement}
 use Rattle.profile.proofs.flat_run.Tie as tie
 
-shorter-requires : tie.Need-shorter-requires
-shorter-requires c κs = search needs
-
-run-requires : tie.Need-run-requires
-run-requires c κs = search needs
-
-same-length : tie.Need-same-length
-same-length c = search needs
-
-same-length-2 : tie.Need-same-length-2
-same-length-2 c = search needs
-
 returns : tie.Need-returns
 returns c =
     let s = c .before .before .before .before .run .ensures in
     let w = run-short _ _ (c .before .before .before .before .before .before .before .before .before .before .before .before .before .args .budget) _ _ (rw (c .before .before .before .before .before .before .before .before .shorter .ensures) at (c .before .before .before .before .before .before .before .if1 .taken)) in
     (s .0 ∙ w .0, (s .1 .0 ∙ w .1, s .1 .1 ∙ w .2))
-
-check-flat-query-requires : tie.Need-check-flat-query-requires
-check-flat-query-requires c κs = search needs
-
-run-requires-2 : tie.Need-run-requires-2
-run-requires-2 c κs = search needs
-
-same-length-3 : tie.Need-same-length-3
-same-length-3 c = search needs
-
-same-length-4 : tie.Need-same-length-4
-same-length-4 c = search needs
 
 returns-2 : tie.Need-returns-2
 returns-2 c =
@@ -49,9 +25,6 @@ returns-2 c =
 found-requires : tie.Need-found-requires
 found-requires c κs = omega (arith, ap (λ (r : Check). r .place) (c .before .before .check-flat-query .ensures), query-flat-place (c .before .before .before .before .before .before .before .before .before .args .book .now) (c .before .before .before .before .before .before .before .before .before .args .query .now) (λ i. omega (arith, c .before .before .before .before .before .before .before .before .shared-slice-known .given i)))
 
-refused-requires : tie.Need-refused-requires
-refused-requires c κs = search needs
-
 returns-3 : tie.Need-returns-3
 returns-3 c =
     let e = by-found _ _ _ _ (rw (c .before .before .before .before .before .before .shorter .ensures) at (c .before .before .before .before .before .if1 .left)) (c .before .before .before .before .check-flat-query .ensures) in
@@ -62,16 +35,16 @@ pub flat-run-spec : {M : Type 1} → statement M
 flat-run-spec =
     tie.close
     (tie.spec
-    shorter-requires
-    run-requires
-    same-length
-    same-length-2
+    (λ c κs. search needs)
+    (λ c κs. search needs)
+    (λ c. search needs)
+    (λ c. search needs)
     returns
-    check-flat-query-requires
-    run-requires-2
-    same-length-3
-    same-length-4
+    (λ c κs. search needs)
+    (λ c κs. search needs)
+    (λ c. search needs)
+    (λ c. search needs)
     returns-2
     found-requires
-    refused-requires
+    (λ c κs. search needs)
     returns-3)

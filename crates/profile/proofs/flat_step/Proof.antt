@@ -9,23 +9,8 @@ use Rattle.profile.specs.Ways.{by-found, code-found, query-flat-place, s
 use Rattle.profile.proofs.flat_step.Statement.{statement}
 use Rattle.profile.proofs.flat_step.Tie as tie
 
-step-requires : tie.Need-step-requires
-step-requires c κs = search needs
-
-same-length : tie.Need-same-length
-same-length c = search needs
-
 returns : tie.Need-returns
 returns c = let w = step-short _ _ _ (c .before .before .before .before .if1 .taken) in (c .before .before .step .ensures .0 ∙ w .0, c .before .before .step .ensures .1 ∙ w .1)
-
-check-flat-query-requires : tie.Need-check-flat-query-requires
-check-flat-query-requires c κs = search needs
-
-step-requires-2 : tie.Need-step-requires-2
-step-requires-2 c κs = search needs
-
-same-length-2 : tie.Need-same-length-2
-same-length-2 c = search needs
 
 returns-2 : tie.Need-returns-2
 returns-2 c =
@@ -35,9 +20,6 @@ returns-2 c =
 
 found-requires : tie.Need-found-requires
 found-requires c κs = omega (arith, ap (λ (r : Check). r .place) (c .before .before .check-flat-query .ensures), query-flat-place (c .before .before .before .before .before .before .before .args .book .now) (c .before .before .before .before .before .before .before .args .query .now) (λ i. omega (arith, c .before .before .before .before .before .before .shared-slice-known .given i)))
-
-not-stepped-requires : tie.Need-not-stepped-requires
-not-stepped-requires c κs = search needs
 
 returns-3 : tie.Need-returns-3
 returns-3 c =
@@ -49,13 +31,13 @@ pub flat-step-spec : {M : Type 1} → statement M
 flat-step-spec =
     tie.close
     (tie.spec
-    step-requires
-    same-length
+    (λ c κs. search needs)
+    (λ c. search needs)
     returns
-    check-flat-query-requires
-    step-requires-2
-    same-length-2
+    (λ c κs. search needs)
+    (λ c κs. search needs)
+    (λ c. search needs)
     returns-2
     found-requires
-    not-stepped-requires
+    (λ c κs. search needs)
     returns-3)

@@ -28,18 +28,12 @@ add-count c = let l = c .before .before .before .before .before .loop in let z =
 next-at-requires : tie.Need-next-at-requires Inv-loop μ-loop
 next-at-requires c κs = search counts
 
-loop-less : tie.Need-loop-less Inv-loop μ-loop
-loop-less c = search needs
-
 loop-again : tie.Need-loop-again Inv-loop μ-loop
 loop-again c =
     let l = c .before .before .before .before .before .before .loop in
     let m = c .before .before .before .mark in
     let t = c .before .before .before .before .before .loop-test .taken in
     (counting-next _ _ _ _ _ _ (l .at) _ (l .inv .0) (l .inv .3) t (m .ensures .0) (m .ensures .1) (c .next-at .ensures), search needs, l .inv .2, l .inv .3, omega (arith, c .next-at .ensures, counting-body _ _ _ _ _ (l .inv .0) t, l .inv .2))
-
-same-length : tie.Need-same-length Inv-loop μ-loop
-same-length c = search needs
 
 returns : tie.Need-returns Inv-loop μ-loop
 returns c = let l = c .before .loop in counting-end _ _ _ _ _ (l .inv .0) (c .loop-test .left)
@@ -54,7 +48,7 @@ count-marked-spec =
     mark-requires
     add-count
     next-at-requires
-    loop-less
+    (λ c. search needs)
     loop-again
-    same-length
+    (λ c. search needs)
     returns)

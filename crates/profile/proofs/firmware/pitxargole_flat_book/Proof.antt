@@ -7,9 +7,6 @@ use Rattle.profile.specs.Numbers.{book-narrow}
 use Rattle.profile.proofs.firmware.pitxargole_flat_book.Statement.{statement}
 use Rattle.profile.proofs.firmware.pitxargole_flat_book.Tie as tie
 
-check-flat-book-requires : tie.Need-check-flat-book-requires
-check-flat-book-requires c κs = search needs
-
 book-number-requires : tie.Need-book-number-requires
 book-number-requires c κs = rw (c .check-flat-book .ensures) (book-narrow _ (λ i. omega (arith, c .before .shared-slice-known .given i)))
 
@@ -18,4 +15,4 @@ returns c = c .book-number .ensures ∙ ap flatBookNumber (c .before .check-flat
 
 pub pitxargole-flat-book-spec : {M : Type 1} → statement M
 pitxargole-flat-book-spec =
-    tie.close (tie.spec check-flat-book-requires book-number-requires returns)
+    tie.close (tie.spec (λ c κs. search needs) book-number-requires returns)

@@ -7,9 +7,6 @@ use Rattle.profile.specs.Numbers.{query-narrow}
 use Rattle.profile.proofs.firmware.pitxargole_flat_query.Statement.{statement}
 use Rattle.profile.proofs.firmware.pitxargole_flat_query.Tie as tie
 
-check-flat-query-requires : tie.Need-check-flat-query-requires
-check-flat-query-requires c κs = search needs
-
 query-number-requires : tie.Need-query-number-requires
 query-number-requires c κs = rw (c .check-flat-query .ensures) (query-narrow _ _ (λ i. omega (arith, c .before .before .shared-slice-known .given i)) (λ i. omega (arith, c .before .shared-slice-known2 .given i)))
 
@@ -18,4 +15,4 @@ returns c = c .query-number .ensures ∙ ap flatQueryNumber (c .before .check-fl
 
 pub pitxargole-flat-query-spec : {M : Type 1} → statement M
 pitxargole-flat-query-spec =
-    tie.close (tie.spec check-flat-query-requires query-number-requires returns)
+    tie.close (tie.spec (λ c κs. search needs) query-number-requires returns)
