@@ -30,6 +30,7 @@ extern "C" {
 #define PITXARGOLE_QUERY_SIZE 15
 #define PITXARGOLE_QUERY_VARIABLE 16
 #define PITXARGOLE_QUERY_ARITY 17 /* in the book, or before it in the query */
+/* 8 and 18, a compound term, are of the flat profile: pitxargole_flat.h. */
 /* A run closed: its last goal's image stands at the front of the goal area, and its answer's image at the front of the answer area. The bytes behind the
    images are as they were. */
 #define PITXARGOLE_SOLVED 20      /* goal empty */

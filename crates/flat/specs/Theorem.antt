@@ -23,7 +23,7 @@ use Rattle.flat.specs.Formulas.{formulas, listed-formula}
 
 module _ (ps : List Symbol) (cs : List ℕ) (P : Book) (book : Flat-book ps cs P) (q : Goal) (query : Flat-goal ps cs q) (numbered : Numbered q) where
   -- whatever stands leftmost is of the list
-  leftmost : (x : Expr) (u : ℕ) (g : Goal) → goal-at P q u ≡ some (x ∷ g) → Listed x (formulas ps cs)
+  pub leftmost : (x : Expr) (u : ℕ) (g : Goal) → goal-at P q u ≡ some (x ∷ g) → Listed x (formulas ps cs)
   leftmost x u g e = listed-formula ps cs x (path-flat ps cs P book q query u (x ∷ g) e .0) (head-eq-of-cons-eq (path-numbered P q numbered u (x ∷ g) e))
 
   -- the path ends, or it passes a primitive cyclic goal

@@ -1,11 +1,13 @@
 -- A good flat query by its good flat book: its path stays flat and keeps the symbols of the two, and its run without limits closes.
-use Prim.Native.Nat.{ℕ, _≤_}
+use Prim.Native.Nat.{ℕ, suc, _+_, _*_, _^_, _≤_}
 use native.Mathlib.Nat.{zero-add}
 use mathlib.Core.Path.{_≡_, refl, sym as inv, ap, subst, _∙_}
 use mathlib.Core.Logic.{inl, inr}
 use mathlib.Core.Option.{some}
 use mathlib.Core.List.{List, [], _∷_, _++_, map}
-use Rattle.terms.specs.Node.{Symbol, constant, compound, predicate, var, sym, Expr}
+use lib.ListN.{length}
+use lib.Dec.{eqb}
+use Rattle.terms.specs.Node.{Symbol, constant, compound, predicate, arity, var, sym, Expr}
 use Rattle.terms.specs.Row.{Row, row-end, row-var, row-sym}
 use Rattle.terms.specs.Substitution.{Symbols}
 use Rattle.loops.specs.Finite.{Listed}
@@ -16,6 +18,9 @@ use Rattle.flat.specs.Flat.{Constant-of, Flat, Flat-goal, Flat-book}
 use Rattle.flat.specs.Flat as Flat
 use Rattle.flat.specs.FlatLaws.{path-flat}
 use Rattle.flat.specs.Formulas.{listed-left, listed-right, listed-map}
+use Rattle.flat.specs.Formulas.{formulas}
+use Rattle.flat.specs.Bound.{formulas-few}
+use Rattle.flat.specs.Theorem.{leftmost}
 use Rattle.flat.specs.Closing as Closing
 use Rattle.flat.specs.Closing.{Settled}
 use Rattle.format.specs.declared.Form.the-variants.{Book}
@@ -25,19 +30,20 @@ use Rattle.format.specs.Decode.{bookOf, goalOf}
 use Rattle.format.proofs.Decoding.{bookOf-image, goalOf-image}
 use Rattle.format.proofs.Meaning.{one-none}
 use Rattle.flatness.specs.Plain.{PlainNodes, PlainGoal, PlainBook}
-use Rattle.flatness.specs.Counts.{nodeConstants, constantsIn}
+use Rattle.flatness.specs.Counts.{distinct, sameUse, nodeConstants, constantsIn}
+use Rattle.flatness.specs.CountLaws.{distinct-use, distinct-number}
 use Rattle.flatness.specs.Profile.{queryFlat}
 use Rattle.flatness.proofs.Refusals.{flat-good-iff, query-flat-book, query-flat-good-iff}
 
 abbrev pub symbolOf : Use → Symbol
 symbolOf u = predicate (u .number) (u .arity)
 
--- the predicates and the constants of the two
+-- the distinct predicates and the distinct constants of the two
 abbrev pub predicatesOf : Next.Book → Next.Goal → List Symbol
-predicatesOf P q = map symbolOf (bookUses P ++ goalUses q)
+predicatesOf P q = map symbolOf (distinct sameUse (bookUses P ++ goalUses q))
 
 abbrev pub constantsOf : Next.Book → Next.Goal → List ℕ
-constantsOf P q = constantsIn P ++ nodeConstants (flat q)
+constantsOf P q = distinct eqb (constantsIn P ++ nodeConstants (flat q))
 
 -- nodes of two rows
 
@@ -97,20 +103,39 @@ module _ (ps : List Symbol) (cs : List ℕ) where
         book-flat b (g .1) (p .1) (λ v i. u v (listed-right v (goalUses h) (bookUses b) i)) (λ x i. k x (listed-right x (nodeConstants (flat h)) (constantsIn b) i)),
       )
 
+among-predicates : (u : Use) (us : List Use) → Listed u us → Listed (symbolOf u) (map symbolOf (distinct sameUse us))
+among-predicates u us i = listed-map symbolOf u (distinct sameUse us) (distinct-use u us .1 i)
+
+-- and each of them is one of a use
+predicate-used : (s : Symbol) (us : List Use) → Listed s (map symbolOf us) → (u : Use) × Listed u us × (s ≡ symbolOf u)
+predicate-used s (u ∷ us) (inl e) = (u, inl refl, e)
+predicate-used s (u ∷ us) (inr i) = let (v, j, e) = predicate-used s us i in (v, inr j, e)
+
 -- Of a good book and a good query without compound terms
 
 module _ (P : Next.Book) (good-book : GoodBook P) (plain-book : PlainBook P) (q : Next.Goal) (good-query : GoodGoal q) (plain-query : PlainGoal q) where
   pub flat-book : Flat-book (predicatesOf P q) (constantsOf P q) P
   flat-book = book-flat (predicatesOf P q) (constantsOf P q) P (good-book .clauses) plain-book
-      (λ u i. listed-map symbolOf u (bookUses P ++ goalUses q) (listed-left u (bookUses P) (goalUses q) i)) (λ c i. listed-left c (constantsIn P) (nodeConstants (flat q)) i)
+      (λ u i. among-predicates u (bookUses P ++ goalUses q) (listed-left u (bookUses P) (goalUses q) i)) (λ c i. distinct-number c (constantsIn P ++ nodeConstants (flat q)) .1 (listed-left c (constantsIn P) (nodeConstants (flat q)) i))
 
   pub flat-query : Flat-goal (predicatesOf P q) (constantsOf P q) q
   flat-query = goal-flat (predicatesOf P q) (constantsOf P q) q (good-query .formulas) plain-query
-      (λ u i. listed-map symbolOf u (bookUses P ++ goalUses q) (listed-right u (bookUses P) (goalUses q) i)) (λ c i. listed-right c (constantsIn P) (nodeConstants (flat q)) i)
+      (λ u i. among-predicates u (bookUses P ++ goalUses q) (listed-right u (bookUses P) (goalUses q) i)) (λ c i. distinct-number c (constantsIn P ++ nodeConstants (flat q)) .1 (listed-right c (constantsIn P) (nodeConstants (flat q)) i))
 
   -- every goal of the path is flat, of the symbols of the two
   pub path-stays : (t : ℕ) (g : Next.Goal) → goal-at P q t ≡ some g → Flat-goal (predicatesOf P q) (constantsOf P q) g
   path-stays t g e = path-flat (predicatesOf P q) (constantsOf P q) P flat-book q flat-query t g e
+
+  -- what stands leftmost is one of so many formulas at most, by the counts of distinct predicates and constants of the two and the largest arity
+  pub leftmost-few : (most : ℕ) → ((u : Use) → Listed u (bookUses P ++ goalUses q) → u .arity ≤ most) →
+      (l : List Expr) × (length l ≤ length (predicatesOf P q) * (most + length (constantsOf P q)) ^ most) × ((t : ℕ) (f : Expr) (g : Next.Goal) → goal-at P q t ≡ some (f ∷ g) → Listed f l)
+  leftmost-few most low = (
+    formulas (predicatesOf P q) (constantsOf P q),
+    formulas-few most (constantsOf P q) (predicatesOf P q) (λ s i.
+        let (u, j, e) = predicate-used s (distinct sameUse (bookUses P ++ goalUses q)) i in
+        subst (λ (x : Symbol). arity x ≤ most) (inv e) (low u (distinct-use u (bookUses P ++ goalUses q) .0 j))),
+    λ t f g e. leftmost (predicatesOf P q) (constantsOf P q) P flat-book q flat-query (good-query .fitting .numbered) f t g e,
+  )
 
   -- so many steps are enough, without limits
   pub enough : ℕ

@@ -93,6 +93,13 @@ use-sound u v e = cases (eqb (u .number) (v .number))
 use-complete : (u v : Use) → u ≡ v → sameUse u v ≡ true
 use-complete u v e = simp (eq-eqb (u .number) (v .number) (ap (λ (x : Use). x .number) e), eq-eqb (u .arity) (v .arity) (ap (λ (x : Use). x .arity) e))
 
+-- what is among the distinct ones of a list is what is of the list
+pub distinct-use : (u : Use) (us : List Use) → Listed u (distinct sameUse us) ↔ Listed u us
+distinct-use u us = distinct-listed sameUse use-sound use-complete u us
+
+pub distinct-number : (c : ℕ) (cs : List ℕ) → Listed c (distinct eqb cs) ↔ Listed c cs
+distinct-number c cs = distinct-listed eqb number-sound number-complete c cs
+
 -- "how many distinct predicates and constants the book has"
 pub predicates-counted : (b : Next.Book) → Count (bookUses b) (bookPredicates b)
 unfolding bookPredicates

@@ -1,11 +1,14 @@
 -- What the flat run says more than the plain one (document 02, C-20): with a budget that is large enough it never says that the steps are used up, but solved, stuck, unknown
 -- predicate or loop, or that a next goal or a next answer has no room. Nothing here looks at the code: `flatRunAnswer` is what the contract of `flat_run` says.
-use Prim.Native.Nat.{ℕ, _≤_}
+use Prim.Native.Nat.{ℕ, _+_, _*_, _^_, _≤_}
 use native.Mathlib.Omega.{arith}
 use native.Mathlib.Decide.{ℕ-discrete}
 use mathlib.Core.Path.{_≡_, sym as inv, ap, _∙_, subst}
 use mathlib.Core.Option.{some}
-use mathlib.Core.List.{List}
+use mathlib.Core.List.{List, _∷_, _++_}
+use lib.ListN.{length}
+use Rattle.terms.specs.Node.{Expr}
+use Rattle.loops.specs.Finite.{Listed}
 use Rattle.search.specs.Next.{Book, Goal}
 use Rattle.search.specs.Run.{Closed, run, goal-at}
 use Rattle.search.specs.Answer.{Answered}
@@ -15,6 +18,7 @@ use Rattle.flat.specs.Flat.{Flat-goal}
 use Rattle.flat.specs.Closing.{Settled, settled-20, settled-21, settled-22, settled-26}
 use Rattle.format.specs.declared.Check.{Check}
 use Rattle.format.specs.Reading.{queryVerdict}
+use Rattle.format.specs.Arities.{Use, bookUses, goalUses}
 use Rattle.format.specs.Format.{Bytes}
 use Rattle.format.specs.Decode.{bookOf, goalOf}
 use Rattle.flatness.specs.Profile.{queryFlat}
@@ -65,6 +69,12 @@ module _ (book query : List ℕ) (book-bytes : Bytes book) (query-bytes : Bytes 
   pub path-stays-flat : (t : ℕ) (g : Goal) → goal-at P q t ≡ some g → Flat-goal (predicatesOf P q) (constantsOf P q) g
   path-stays-flat = Paths.path-stays P (both .good-book) (both .plain-book) q (both .good-query) (both .plain-query)
 
+  -- of different formulas leftmost there are so many at most, by the counts of distinct predicates and constants of the two and the largest arity
+  pub leftmost-few : (most : ℕ) → ((u : Use) → Listed u (bookUses P ++ goalUses q) → u .arity ≤ most) →
+      (l : List Expr) × (length l ≤ length (predicatesOf P q) * (most + length (constantsOf P q)) ^ most) × ((t : ℕ) (f : Expr) (g : Goal) → goal-at P q t ≡ some (f ∷ g) → Listed f l)
+  leftmost-few = Paths.leftmost-few P (both .good-book) (both .plain-book) q (both .good-query) (both .plain-query)
+
+  -- so many steps are enough: a number that exists, and that the counts do not bound usefully (flat/specs/Doubling)
   pub enough : ℕ
   enough = Paths.enough P (both .good-book) (both .plain-book) q (both .good-query) (both .plain-query)
 
