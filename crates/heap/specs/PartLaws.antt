@@ -24,10 +24,9 @@ use Rattle.heap.specs.declared.writing.Pen.{Pen}
 -- after some of what the walk `from` visits the walk w is left
 pub record Partway (heap cells names out : List ℕ) (pen : Pen) (from : Walk) (limit : ℕ) (levels names′ out′ : List ℕ) (at count : ℕ) (w : Walk) : Type 0 where
   pub ready : Ready heap levels w
-  pub deep : pen .at + w .depth ≤ at
   pub high : at ≤ limit
   pub few : count ≤ at
-  pub levels-long : 8194 ≤ length levels
+  pub levels-long : 514 ≤ length levels
   pub names-long : length names′ ≡ CELLS
   pub out-long : limit ≤ length out′
   pub tabled : (seen : List ℕ) × Table seen (table names′) (back names′) count
@@ -39,12 +38,20 @@ module _ (heap cells levels : List ℕ) (w : Walk) (none : w .depth ≡ 0) (θ :
   pub ahead-alone : ahead heap levels θ w ≡ apply θ (rows heap (w .due) (w .at))
   ahead-alone = ap (λ n. apply θ (rows heap (w .due) (w .at)) ++ behind heap levels θ n) none ∙ append-nil (apply θ (rows heap (w .due) (w .at)))
 
+-- it gave up
+pub part-tired : {heap cells names out : List ℕ} {pen : Pen} {from : Walk} {limit : ℕ} (names′ out′ : List ℕ) (count : ℕ) → limit ≤ 8192 → Written heap cells names out pen from limit names′ out′ (record { at = 65534; count = count })
+part-tired names′ out′ count l = record {
+  fits = λ h. absurd (omega (arith, l, h));
+  few = λ h. absurd (omega (arith, l, h));
+  over = λ h. absurd (omega (arith, h));
+  ends = λ n m. absurd (m refl);
+}
+
 module _ {heap cells names out : List ℕ} {pen : Pen} {from : Walk} {limit : ℕ} where
-  pub part-start : {levels : List ℕ} → Ready heap levels from → from .depth ≡ 0 → pen .at ≤ limit → pen .count ≤ pen .at → 8194 ≤ length levels → length names ≡ CELLS → limit ≤ length out
+  pub part-start : {levels : List ℕ} → Ready heap levels from → from .depth ≡ 0 → pen .at ≤ limit → pen .count ≤ pen .at → 514 ≤ length levels → length names ≡ CELLS → limit ≤ length out
       → (seen : List ℕ) × Table seen (table names) (back names) (pen .count) → Partway heap cells names out pen from limit levels names out (pen .at) (pen .count) from
   part-start {levels} r z l f a b c t = record {
     ready = r;
-    deep = omega (arith, z);
     high = l;
     few = f;
     levels-long = a;
@@ -56,13 +63,14 @@ module _ {heap cells names out : List ℕ} {pen : Pen} {from : Walk} {limit : �
 
   module _ {levels names′ out′ : List ℕ} {at count : ℕ} {w : Walk} (x : Partway heap cells names out pen from limit levels names′ out′ at count w) where
     -- all is written
-    pub part-end : w .due ≤ 0 → Written heap cells names out pen from limit names′ out′ (record { at = at; count = count })
-    part-end z = record {
+    pub part-end : w .due ≤ 0 → limit ≤ 8192 → Written heap cells names out pen from limit names′ out′ (record { at = at; count = count })
+    part-end z small = record {
       fits = λ l θ s.
           let (done, e, p) = x .so-far θ s in
           subst (λ y. Writes names out pen y names′ out′ (record { at = at; count = count })) (inv (append-nil done) ∙ ap (λ y. done ++ y) (inv (nothing θ)) ∙ e) p;
       few = λ l. x .few;
-      over = λ l. absurd (omega (arith, x .high, l));
+      over = λ l. absurd (omega (arith, x .high, small, l));
+      ends = λ n m. x .high;
     }
       where
         none : w .due ≡ 0
@@ -76,13 +84,11 @@ module _ {heap cells names out : List ℕ} {pen : Pen} {from : Walk} {limit : �
     part-over some e l = record {
       fits = λ h. absurd (omega (arith, l, h));
       few = λ h. absurd (omega (arith, l, h));
-      over = λ h. (
-        refl,
-        λ θ s.
-            let (done, same, p) = x .so-far θ s in
-            let left = row-long (apply-row θ (s .solves .proper) (x .ready .front)) in
-            omega (arith, e, some, p .at, left, length-append done (ahead heap levels θ w), length-append (apply θ (rows heap (w .due) (w .at))) (behind heap levels θ (w .depth)), ap length same),
-      );
+      over = λ h θ s.
+          let (done, same, p) = x .so-far θ s in
+          let left = row-long (apply-row θ (s .solves .proper) (x .ready .front)) in
+          omega (arith, e, some, p .at, left, length-append done (ahead heap levels θ w), length-append (apply θ (rows heap (w .due) (w .at))) (behind heap levels θ (w .depth)), ap length same);
+      ends = λ n. absurd (n refl);
     }
 
     pub part-under : (at ≡ limit → ⊥) → at < limit
@@ -97,7 +103,6 @@ module _ {heap cells names out : List ℕ} {pen : Pen} {from : Walk} {limit : �
         → Partway heap cells names out pen from limit levels′ names″ out″ next r w′
     part-next {u} v l {names″} {out″} {r} n lo ln {next} e = record {
       ready = v .ready;
-      deep = omega (arith, x .deep, v .deep, e);
       high = omega (arith, l, e);
       few = omega (arith, x .few, n .slow, e);
       levels-long = omega (arith, x .levels-long, v .long);

@@ -21,8 +21,9 @@ pub record Writes (names out : List ℕ) (pen : Pen) (e : Expr) (names′ out′
   pub is : (seen : List ℕ) → Table seen (table names) (back names) (pen .count) → nodes (take (pen′ .at) out′) ≡ nodes (take (pen .at) out) ++ number seen e
   pub fits : (k : ℕ) → pen′ .count ≤ k → Fits k (take (pen .at) out) → Fits k (take (pen′ .at) out′)
 
--- what a walk with no levels visits is written, or it would pass the limit
+-- what a walk with no levels visits is written, or it would pass the limit, or nothing is known
 pub record Written (heap cells names out : List ℕ) (pen : Pen) (from : Walk) (limit : ℕ) (names′ out′ : List ℕ) (r : Pen) : Type 0 where
   pub fits : r .at ≤ limit → (θ : Subst) → Solved heap cells θ → Writes names out pen (apply θ (rows heap (from .due) (from .at))) names′ out′ r
   pub few : r .at ≤ limit → r .count ≤ r .at
-  pub over : limit < r .at → (r .at ≡ 65535) × ((θ : Subst) → Solved heap cells θ → limit < pen .at + length (apply θ (rows heap (from .due) (from .at))))
+  pub over : r .at ≡ 65535 → (θ : Subst) → Solved heap cells θ → limit < pen .at + length (apply θ (rows heap (from .due) (from .at)))
+  pub ends : (r .at ≡ 65535 → ⊥) → (r .at ≡ 65534 → ⊥) → r .at ≤ limit

@@ -18,6 +18,10 @@ pub struct Walk {
     pub depth: usize,
 }
 
+// The most levels that a walk is given storage for. One is kept where a bound variable has rows behind it, so that a walk has more of them only
+// through as many bindings, one inside the other.
+pub const DEEPEST: usize = 256;
+
 // A node, and the walk after it.
 pub struct Seen {
     pub word: u32,

@@ -27,11 +27,11 @@ Looked heap cells v p fuel Tired = Unit {0}
 pub record Seeking (heap cells : List ℕ) (v p fuel : ℕ) (levels : List ℕ) (left : ℕ) (w : Walk) : Type 0 where
   pub ready : Ready heap levels w
   pub deep : w .depth + left ≤ fuel
-  pub long : 8194 ≤ length levels
+  pub long : 514 ≤ length levels
   pub so-far : (θ : Subst) → Solved heap cells θ → (done : Expr) × (done ++ ahead heap levels θ w ≡ apply θ (rows heap 1 p)) × ¬ In v done
 
 module _ {heap cells : List ℕ} {v p fuel : ℕ} where
-  pub seek-start : {levels : List ℕ} → Whole heap 1 p → 8194 ≤ length levels → Seeking heap cells v p fuel levels fuel (record { at = p; due = 1; depth = 0 })
+  pub seek-start : {levels : List ℕ} → Whole heap 1 p → 514 ≤ length levels → Seeking heap cells v p fuel levels fuel (record { at = p; due = 1; depth = 0 })
   seek-start {levels} r l = record {
     ready = record { front = r; back = λ i h. absurd (omega arith); ended = λ e. absurd (omega arith); room = omega arith };
     deep = omega arith;

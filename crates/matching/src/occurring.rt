@@ -1,4 +1,5 @@
 // The occur check: whether a variable is in what a row stands for.
+use heap::walking::DEEPEST;
 use heap::walking::Walk;
 use heap::walking::next;
 ghost use Prim.Native.Nat.{_<_, _≤_};
@@ -6,7 +7,7 @@ ghost use lib.ListN.{length};
 ghost use Rattle.heap.specs.Heap.{Made, Whole};
 ghost use Rattle.matching.specs.Occurring.{Looked};
 
-// It is not, and so many nodes may still be visited; it is; or there were too many nodes to say.
+// It is not, and so many nodes may still be visited; it is; or there were too many nodes or levels to say.
 pub enum Look {
     Away(usize),
     There,
@@ -22,7 +23,7 @@ pub fn occurs(
     fuel: usize,
 ) -> Look
     requires { ⌜ Made (now heap) (now cells) × Whole (now heap) 1 p × (v < 65536) ⌝ }
-    requires { ⌜ (fuel ≤ 4096) × (8194 ≤ length (now levels)) ⌝ }
+    requires { ⌜ (fuel ≤ 4096) × (514 ≤ length (now levels)) ⌝ }
     ensures { λ r. ⌜ Looked (now (heap .entry)) (now (cells .entry)) v p fuel r ⌝ }
 {
     let sought = 0x100_0000 + v as u32;
@@ -34,6 +35,9 @@ pub fn occurs(
     };
     while 0 < w.due {
         if left == 0 {
+            return Look::Tired;
+        }
+        if DEEPEST <= w.depth {
             return Look::Tired;
         }
         let seen = next(heap, cells, levels, w);
