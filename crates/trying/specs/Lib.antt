@@ -1,0 +1,2 @@
+-- One head tried on the heap (Trying).
+pub mod Trying
