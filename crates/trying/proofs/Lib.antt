@@ -1,2 +1,4 @@
 -- Laws that the proofs share.
 mod Resets
+mod Heaps
+mod Tests

@@ -9,13 +9,15 @@ use words::shelf::START;
 use words::shelf::clauses;
 use words::shelf::entry;
 ghost use mathlib.Core.Path.{_≡_};
-ghost use mathlib.Core.List.{List, [], _∷_};
-ghost use Prim.Native.Nat.{ℕ, _<_, _≤_};
+ghost use Prim.Native.Nat.{ℕ, _<_};
 ghost use lib.ListN.{length, take};
-ghost use Rattle.words.specs.Columns.{CELLS};
+ghost use Rattle.words.specs.Columns.{CELLS, WORDS};
 ghost use Rattle.heap.specs.Heap.{Made, Whole};
 ghost use Rattle.matching.specs.TrialLaws.{Free};
-ghost use Rattle.trying.specs.Trying.{Undoable, Attempted};
+ghost use Rattle.terms.specs.Node.{Expr};
+ghost use Rattle.search.specs.Next.{Book, Goal, clause-at};
+ghost use Rattle.words.specs.Held.{BookOn};
+ghost use Rattle.trying.specs.Trying.{Attempted, Fronted, clause-words, Tested, Sought};
 
 pub mod resetting; // no variable bound any more
 
@@ -62,4 +64,62 @@ fn try_rows(heap: &[u32], cells: &mut [u16], rows: &mut [u16], q: usize) -> Atte
             Attempt::Tired
         }
     }
+}
+
+// The clause number i, put behind the row, which is the first n words and begins with a formula of m.
+fn try_clause(
+    book: &[u32],
+    shelf: &[u16],
+    words: &mut [u32],
+    n: usize,
+    m: usize,
+    i: usize,
+    cells: &mut [u16],
+    rows: &mut [u16],
+) -> Attempt
+    requires { ⌜ (length (now words) ≡ WORDS) × (length (now cells) ≡ 8256) × (length (now rows) ≡ CELLS) × Free (now cells) ⌝ }
+    requires { ⌜ ((P : Book) × BookOn (now book) (now shelf) P × (i < length P)) × ((f : Expr) × (g : Goal) × (a : Goal) × Fronted (now words) n m f g a) ⌝ }
+    ensures row { λ _. ⌜ take n (now (words .exit)) ≡ take n (now (words .entry)) ⌝ }
+    ensures tested { λ r. ⌜ ((P : Book) (f : Expr) (g a : Goal) → BookOn (now (book .entry)) (now (shelf .entry)) P → i < length P → Fronted (now (words .entry)) n m f g a → Tested f (clause-at P i) (take n (now (words .entry))) (clause-words (now (book .entry)) (now (shelf .entry)) (length P) i) (now (words .exit)) (now (cells .exit)) (now (rows .exit)) n r) ⌝ }
+{
+    let s = entry(shelf, START, i);
+    let e = entry(shelf, HEAD, i);
+    if told_apart(&words[0..m], &book[s..e]) {
+        return Attempt::Clash;
+    }
+    let t = entry(shelf, START, i + 1);
+    let r = append(words, n, &book[s..t], 8192);
+    try_rows(&words[0..r], cells, rows, n)
+}
+
+// The first clause that fits, by its number, and how many goal variables its trial has bound; or nothing is known.
+pub enum Found {
+    Clause(usize, usize),
+    Unsure,
+}
+
+// The first clause whose head unifies with the row's first formula.
+fn first_fit(
+    book: &[u32],
+    shelf: &[u16],
+    words: &mut [u32],
+    n: usize,
+    m: usize,
+    cells: &mut [u16],
+    rows: &mut [u16],
+) -> Found
+    requires { ⌜ (length (now words) ≡ WORDS) × (length (now cells) ≡ 8256) × (length (now rows) ≡ CELLS) × Free (now cells) ⌝ }
+    requires { ⌜ ((P : Book) × BookOn (now book) (now shelf) P) × ((f : Expr) × (g : Goal) × (a : Goal) × Fronted (now words) n m f g a) ⌝ }
+    ensures { λ r. ⌜ ((P : Book) (f : Expr) (g a : Goal) → BookOn (now (book .entry)) (now (shelf .entry)) P → Fronted (now (words .entry)) n m f g a → Sought P f (now (book .entry)) (now (shelf .entry)) (take n (now (words .entry))) (now (words .exit)) (now (cells .exit)) (now (rows .exit)) n r) ⌝ }
+{
+    let all = clauses(shelf);
+    let mut i = 0;
+    while i < all {
+        match try_clause(book, shelf, words, n, m, i, cells, rows) {
+            Attempt::Fits(count) => return Found::Clause(i, count),
+            Attempt::Clash => i += 1,
+            Attempt::Tired => return Found::Unsure,
+        }
+    }
+    Found::Unsure
 }
