@@ -2,3 +2,5 @@
 mod Resets
 mod Heaps
 mod Tests
+mod Carries
+mod Steps

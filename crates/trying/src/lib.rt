@@ -20,6 +20,8 @@ ghost use Rattle.words.specs.Held.{BookOn};
 ghost use Rattle.trying.specs.Trying.{Attempted, Fronted, clause-words, Tested, Sought};
 
 pub mod resetting; // no variable bound any more
+pub mod carrying; // the next goal and answer written
+pub mod stepping; // the step by the first clause that fits
 
 // Two rows on a heap where nothing is bound: equal now, with so many goal variables on the trail; or they can't be made equal; or nothing is
 // known. Only where they are equal is anything bound behind it.
@@ -99,7 +101,7 @@ pub enum Found {
 }
 
 // The first clause whose head unifies with the row's first formula.
-fn first_fit(
+pub fn first_fit(
     book: &[u32],
     shelf: &[u16],
     words: &mut [u32],
