@@ -4,3 +4,5 @@ mod Heaps
 mod Tests
 mod Carries
 mod Steps
+mod Quicks
+mod Moves

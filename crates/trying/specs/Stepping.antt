@@ -8,7 +8,10 @@ use Rattle.search.specs.Next.{Book, Goal}
 use Rattle.words.specs.Held.{RowIn, BookOn, starts, heads, bodies}
 use Rattle.resolve.specs.Advancing.{Follows, Advanced}
 use Rattle.trying.specs.Trying.{clause-words, Held-trial}
+use Rattle.resolve.specs.declared.Move.the-variants.{Full, Over, To}
 use Rattle.trying.specs.declared.carrying.Parts.{Parts}
+use Rattle.trying.specs.declared.carrying.Next.{Next}
+use Rattle.trying.specs.declared.carrying.Next.the-variants as Next
 use Rattle.trying.specs.declared.stepping.Shape.{Shape}
 use Rattle.trying.specs.declared.stepping.Quick.{Quick}
 use Rattle.trying.specs.declared.stepping.Quick.the-variants.{Unsure, Sure}
@@ -23,6 +26,12 @@ parts shelf x n i = record {
   answer = x .goal;
   answers = x .answers;
 }
+
+abbrev pub concluded : Next → ℕ → ℕ → Quick
+concluded Next.Tired i n = Unsure
+concluded Next.Full i n = Sure Full
+concluded Next.Over i n = Sure Over
+concluded (Next.Done r s) i n = Sure (To i r s n)
 
 -- the words w hold the goal of f and g and the answer a, and x is their shape
 pub record Shaped (w : List ℕ) (x : Shape) (f : Expr) (g a : Goal) : Type 0 where
