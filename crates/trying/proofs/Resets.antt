@@ -52,17 +52,27 @@ module _ (tables : List ℕ) (l : length tables ≡ 30464) where
   trail-long = length-take-le 4096 (drop 16512 tables) (omega (arith, length-drop 16512 tables, l))
 
 -- A trial that starts with nothing bound, from how it ends.
-abbrev pub start : Trial
-start = record { base = 8192; count = 0; fuel = 4096 }
+abbrev pub start : ℕ → Trial
+start k = record { base = 8192; count = 0; fuel = k }
 
-module _ (heap before tables : List ℕ) (free : Free before) (q : ℕ) (cells now tables′ : List ℕ) (count : ℕ) (is : trail tables′ ≡ now) (k : Trail-kept before (trail tables) start cells now count) where
+abbrev pub Starts : Trial → Type 0
+Starts t = (k : ℕ) × (k ≤ 4096) × (t ≡ start k)
+
+module _ (heap before tables : List ℕ) (free : Free before) (q : ℕ) (cells now tables′ : List ℕ) (count : ℕ) (is : trail tables′ ≡ now) (t : Trial) (b : Starts t) (k : Trail-kept before (trail tables) t cells now count) where
+  kept : Trail-kept before (trail tables) (start (b .0)) cells now count
+  kept = subst (λ y. Trail-kept before (trail tables) y cells now count) (b .2) k
+
   pub undoable : Undoable cells tables′ count
-  undoable = record { before = before; free = free; trailed = subst (λ t. Trailed before cells t 8192 count) (inv is) (k .0 before (trail-none before (trail tables) 8192)); few = omega (arith, k .1) }
+  undoable = record { before = before; free = free; trailed = subst (λ t. Trailed before cells t 8192 count) (inv is) (kept .0 before (trail-none before (trail tables) 8192)); few = omega (arith, kept .1, b .1) }
 
   pub fitted : More heap before 0 q cells → Fitted heap q cells tables′ count
   fitted more =
       let (θ, s, g) = trial-fits {heap = heap} free 0 q more in
       record { made = more .made; undoable = undoable; unifier = θ; solved = s; general = g }
+
+-- how far it may go
+pub start-few : (t : Trial) → Starts t → (t .fuel ≤ 4096) × (t .count + t .fuel ≤ 4096)
+start-few t (k, l, e) = rw e (l, omega (arith, l))
 
 -- the trail after the part is back
 pub trail-back : (tables now : List ℕ) → length tables ≡ 30464 → length now ≡ length (take 4096 (drop 16512 tables)) → trail (putMid 16512 4096 tables now) ≡ now

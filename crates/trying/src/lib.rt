@@ -9,7 +9,7 @@ use words::shelf::START;
 use words::shelf::clauses;
 use words::shelf::entry;
 ghost use mathlib.Core.Path.{_≡_};
-ghost use Prim.Native.Nat.{ℕ, _<_};
+ghost use Prim.Native.Nat.{ℕ, _<_, _≤_};
 ghost use lib.ListN.{length, take};
 ghost use Rattle.words.specs.Columns.{CELLS, WORDS};
 ghost use Rattle.heap.specs.Heap.{Made, Whole};
@@ -34,18 +34,32 @@ pub enum Attempt {
 // The variables of a clause start here, behind those of goal and answer.
 pub const BASE: usize = 8192;
 
-// The rows at 0 and at q.
+// A trial's start: it may visit as many nodes as the row has, and 256, at most 4,096. What takes longer, such as doubled terms, is the other step's.
+fn begun(row: usize) -> Trial
+    ensures { λ t. ⌜ ((k : ℕ) × (k ≤ 4096) × (t ≡ record { base = 8192; count = 0; fuel = k })) ⌝ }
+{
+    if row < 3840 {
+        return Trial {
+            base: BASE,
+            count: 0,
+            fuel: row + 256,
+        };
+    }
+    Trial {
+        base: BASE,
+        count: 0,
+        fuel: 4096,
+    }
+}
+
+// The rows at 0 and at q, where the clause stands behind the row.
 fn try_rows(heap: &[u32], cells: &mut [u16], rows: &mut [u16], q: usize) -> Attempt
     requires { ⌜ Made (now heap) (now cells) × Free (now cells) × (length (now cells) ≡ 8256) × (length (now rows) ≡ CELLS) × Whole (now heap) 1 0 × Whole (now heap) 1 q ⌝ }
     ensures { λ r. ⌜ Attempted (now (heap .entry)) q (now (cells .exit)) (now (rows .exit)) r ⌝ }
 {
     let mut levels = [0u16; 514];
     let mut stack = [0u16; 387];
-    let t = Trial {
-        base: BASE,
-        count: 0,
-        fuel: 4096,
-    };
+    let t = begun(q);
     match unify(
         heap,
         cells,
