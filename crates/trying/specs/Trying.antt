@@ -69,6 +69,12 @@ Tested f c row clause words cells tables n (Fits count) = Meets f c × Held-tria
 Tested f c row clause words cells tables n Clash = (Meets f c → ⊥) × Free cells
 Tested f c row clause words cells tables n Tired = Free cells
 
+-- the heads of the clauses from `from` to r, and not on, begin with another word than u
+pub record Skipped (P : Book) (book shelf : List ℕ) (u from r : ℕ) : Type 0 where
+  pub low : from ≤ r
+  pub high : r ≤ length P
+  pub other : (j : ℕ) → from ≤ j → j < r → getD book (getD (starts (length P) shelf) j 0) 0 ≡ u → ⊥
+
 -- the first clause that fits, and its trial; or nothing is known
 abbrev pub Sought : Book → Expr → List ℕ → List ℕ → List ℕ → List ℕ → List ℕ → List ℕ → ℕ → Found → Type 0
 Sought P f book shelf row words cells tables n (Found.Clause i count) = Picked f P 0 i × (i < length P) × Held-trial row (clause-words book shelf (length P) i) words cells tables n count
