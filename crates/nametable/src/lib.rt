@@ -34,7 +34,7 @@ fn hash(text: &[u8], at: usize, len: usize) -> usize
 }
 
 // Whether two names of one length are the same.
-fn same(text: &[u8], a: usize, b: usize, len: usize) -> bool
+pub fn same(text: &[u8], a: usize, b: usize, len: usize) -> bool
     requires { ⌜ (a + len ≤ length (now text)) × (b + len ≤ length (now text)) ⌝ }
     ensures { λ r. ⌜ r ≡ same-name (word (now (text .entry)) a len) (word (now (text .entry)) b len) ⌝ }
 {

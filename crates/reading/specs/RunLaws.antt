@@ -26,7 +26,7 @@ Shut (t ∷ ts) = is-opening t ≡ false
 
 -- A name that stands alone
 
-settle-judge : (s : State) (t : Token) (at : ℕ) → is-opening t ≡ false → judge-token (settle s) at t ≡ judge-token s at t
+pub settle-judge : (s : State) (t : Token) (at : ℕ) → is-opening t ≡ false → judge-token (settle s) at t ≡ judge-token s at t
 settle-judge s t at h = same (s .mode) t h
   where
     same : (m : Mode) (t : Token) → is-opening t ≡ false → judge-token (settle (state (s .rules) (s .part) m)) at t ≡ judge-token (state (s .rules) (s .part) m) at t
