@@ -22,7 +22,7 @@ part-front (suc b) m (suc a) [] zs l h = absurd (omega arith)
 part-front (suc b) m (suc a) (x ∷ xs) zs l h = part-front b m a xs zs (omega arith) (omega arith)
 
 drop-more : (a b : ℕ) (xs : List ℕ) (c : ℕ) → a + b ≡ c → drop b (drop a xs) ≡ drop c xs
-drop-more zero b xs c e = ap (λ (n : ℕ). drop n xs) (omega (arith, e))
+drop-more zero b xs c e = let z : b ≡ c = omega (arith, e) in ap (λ (n : ℕ). drop n xs) z
 drop-more (suc a) b [] zero e = absurd (omega arith)
 drop-more (suc a) zero [] (suc c) e = refl
 drop-more (suc a) (suc b) [] (suc c) e = refl
