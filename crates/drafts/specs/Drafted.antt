@@ -4,7 +4,7 @@ use mathlib.Core.Path.{_≡_}
 use mathlib.Core.List.{List, [], _∷_, _++_}
 use lib.ListN.{length, take}
 use Rattle.grammar.specs.Names as Names
-use Rattle.grammar.specs.Names.{Sort, Spot, symbol-spot, names-after}
+use Rattle.grammar.specs.Names.{Sort, Spot, variable-spot, symbol-spot, names-after}
 use Rattle.grammar.specs.GrowLaws.{numbered-on}
 use Rattle.records.specs.Format.{encode, nodeRecords}
 use Rattle.symbols.specs.declared.Section.{Section}
@@ -29,6 +29,20 @@ after T e k = names-after k (T k) e
 -- the bytes of nodes, numbered by the names as they come
 abbrev pub bytesOf : Tables → List (List ℕ) → List Spot → List ℕ
 bytesOf T seen e = encode (nodeRecords (numbered-on T seen e))
+
+-- a sort of symbols that have an arity
+abbrev pub Bracketed : Sort → Type 0
+Bracketed Names.Constant = ⊥
+Bracketed Names.Compound = Unit {0}
+Bracketed Names.Predicate = Unit {0}
+
+-- how many bytes nodes have
+abbrev pub weight : List Spot → ℕ
+weight [] = 0
+weight (variable-spot w ∷ e) = 3 + weight e
+weight (symbol-spot Names.Constant w n ∷ e) = 3 + weight e
+weight (symbol-spot Names.Compound w n ∷ e) = 4 + weight e
+weight (symbol-spot Names.Predicate w n ∷ e) = 4 + weight e
 
 -- where the names of each sort stand: a book of 32,768 bytes, and one rule more, has no more of them
 abbrev pub sectionOf : Draft → Kind → Section

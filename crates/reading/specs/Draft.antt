@@ -88,7 +88,7 @@ raise-at [] b (suc i) n k w h = absurd (omega arith)
 raise-at (x ∷ a) b zero n k w h = absurd (omega arith)
 raise-at (x ∷ a) b (suc i) n k w h = ap (λ (l : List Spot). x ∷ l) (raise-at a b i n k w (omega arith))
 
-opened-raised : (p : Part) (k : Sort) (v : List ℕ) (n : ℕ) (r : List Spot) → raise (nodes p) (drafts p (symbol-spot k v n ∷ r)) ≡ drafts p (symbol-spot k v (suc n) ∷ r)
+pub opened-raised : (p : Part) (k : Sort) (v : List ℕ) (n : ℕ) (r : List Spot) → raise (nodes p) (drafts p (symbol-spot k v n ∷ r)) ≡ drafts p (symbol-spot k v (suc n) ∷ r)
 opened-raised p k v n r =
     ap (raise (nodes p)) (inv (drafts-append p [] (symbol-spot k v n ∷ r)))
     ∙ raise-at (drafts p []) r (nodes p) n k v (omega (arith, drafts-count p []))

@@ -1,0 +1,2 @@
+-- What the proofs of the functions share.
+pub mod Places  -- records of open symbols, and what a name adds
