@@ -1,11 +1,13 @@
 -- The bytes of the rule that is read in part (reading, Part and Draft), and where the records of its open symbols stand.
-use Prim.Native.Nat.{ℕ, zero, suc, _+_, _≤_, _<_}
+use Prim.Native.Nat.{ℕ, zero, suc, _+_, _-_, _≤_, _<_}
 use mathlib.Core.Path.{_≡_}
+use mathlib.Core.Bool.{true}
 use mathlib.Core.List.{List, []}
 use lib.ListN.{length, getD, set, take}
 use Rattle.grammar.specs.Syntax.{Formula, none}
-use Rattle.reading.specs.Part.{Done, none-yet, Part, formulas, inside, put}
-use Rattle.reading.specs.Reader.{nodes}
+use Rattle.grammar.specs.Names.{variable-number}
+use Rattle.reading.specs.Part.{Done, none-yet, and-variable, Part, formulas, inside, filled, terms-of, put}
+use Rattle.reading.specs.Reader.{nodes, variables}
 use Rattle.reading.specs.LimitLaws.{SmallPart}
 use Rattle.reading.specs.Draft.{drafts}
 use Rattle.nametable.specs.Table.{word}
@@ -57,3 +59,34 @@ pub record Alone (text out out′ opens starts lens heads nexts starts′ lens�
       Built text out′ opens starts′ lens′ heads′ nexts′ r T (put p (word text (w .at) (w .len)) none) (w .depth)
   pub from-stays : r .from ≡ w .draft .from
   pub kept : (n : ℕ) → n ≤ w .draft .from → take n out′ ≡ take n out
+
+-- a bracket is open, and there are at most so many nodes
+pub record Nested (out opens : List ℕ) (b : Draft) (depth most : ℕ) : Type 0 where
+  pub text : List ℕ
+  pub starts : List ℕ
+  pub lens : List ℕ
+  pub heads : List ℕ
+  pub nexts : List ℕ
+  pub base : Tables
+  pub part : Part
+  pub built : Built text out opens starts lens heads nexts b base part depth
+  pub small : SmallPart part
+  pub count : nodes part ≤ most
+  pub deep : 0 < depth
+
+-- behind an argument that is a variable
+pub record Argued (out out′ opens : List ℕ) (b : Draft) (depth v : ℕ) (r : Draft) : Type 0 where
+  pub builds : (text starts lens heads nexts : List ℕ) (T : Tables) (q : Part) (u w : List ℕ) (d : Done) → Built text out opens starts lens heads nexts b T (inside q u d) depth → nodes (inside q u d) ≤ 255 →
+      v ≡ variable-number (variables (inside q u d)) w → Built text out′ opens starts lens heads nexts r T (inside q u (and-variable d w)) depth
+  pub from-stays : r .from ≡ b .from
+  pub kept : (n : ℕ) → n ≤ b .from → take n out′ ≡ take n out
+
+-- behind a closing bracket
+pub record Closed (out out′ opens : List ℕ) (b : Draft) (depth : ℕ) : Type 0 where
+  pub builds : (text starts lens heads nexts : List ℕ) (T : Tables) (q : Part) (u : List ℕ) (d : Done) → Built text out opens starts lens heads nexts b T (inside q u d) depth → nodes (inside q u d) ≤ 256 →
+      filled d ≡ true → Built text out′ opens starts lens heads nexts b T (put q u (terms-of d none)) (depth - 1)
+  pub kept : (n : ℕ) → n ≤ b .from → take n out′ ≡ take n out
+
+-- with the clause record in front
+abbrev pub headed : List ℕ → ℕ → ℕ → List ℕ
+headed out from n = set (set out (from - 2) 5) (from - 1) (n - 1)

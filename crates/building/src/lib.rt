@@ -3,13 +3,14 @@ use drafts::Draft;
 use drafts::Kind;
 use drafts::Named;
 use drafts::symbol;
+use drafts::variable;
 use drafts::writing::raise;
 use words::get;
 ghost use mathlib.Core.Path.{_≡_};
 ghost use mathlib.Core.List.{List};
 ghost use Prim.Native.Nat.{ℕ, _+_, _-_, _<_, _≤_};
 ghost use lib.ListN.{length, getD, set};
-ghost use Rattle.building.specs.Built.{kindAt, bumped, Ready, Opened, Alone};
+ghost use Rattle.building.specs.Built.{kindAt, bumped, Ready, Opened, Alone, Nested, Argued, Closed, headed};
 
 // The name that a token settles, and how many brackets are open.
 pub struct Work {
@@ -115,4 +116,33 @@ pub fn alone(
         b,
         Named { kind, at, len },
     )
+}
+
+// One more argument, a variable by its number.
+pub fn argument(out: &mut [u8], opens: &[u16], b: Draft, depth: usize, v: usize) -> Draft
+    requires { ⌜ Nested (now out) (now opens) b depth 255 × (v < 65536) ⌝ }
+    ensures { λ r. ⌜ Argued (now (out .entry)) (now (out .exit)) (now (opens .entry)) b depth v r ⌝ }
+{
+    bump(out, opens, b.from, depth - 1);
+    variable(out, b, v)
+}
+
+// A closing bracket: one more argument of the symbol outside it, if there is one.
+pub fn close(out: &mut [u8], opens: &[u16], b: Draft, depth: usize)
+    requires { ⌜ Nested (now out) (now opens) b depth 256 ⌝ }
+    ensures { λ _. ⌜ Closed (now (out .entry)) (now (out .exit)) (now (opens .entry)) b depth ⌝ }
+{
+    if depth < 2 {
+        return;
+    }
+    bump(out, opens, b.from, depth - 2);
+}
+
+// The clause record before the nodes of a rule.
+pub fn finish(out: &mut [u8], from: usize, formulas: usize)
+    requires { ⌜ (2 ≤ from) × (from ≤ length (now out)) × (0 < formulas) × (formulas ≤ 17) ⌝ }
+    ensures { λ _. ⌜ now (out .exit) ≡ headed (now (out .entry)) from formulas ⌝ }
+{
+    out[from - 2] = 5;
+    out[from - 1] = (formulas - 1) as u8;
 }

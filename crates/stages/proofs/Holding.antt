@@ -146,6 +146,7 @@ held-alone {text} {counts} {vars} c {s} h e =
       small = k;
       counts-long = raised-long (c .depth) counts ∙ h .counts-long;
       vars-long = h .vars-long;
+      name-inside = tt;
     })
 
 pub held-settled : {text counts vars : List ℕ} (c : Stage) {s : State} → Held text counts vars c s → Settled (c .mode) → settle s ≡ s

@@ -72,6 +72,7 @@ closing-part {text} {counts} {vars} c cs (inside p v d) m at h i z n =
         small = judge-small (state cs (inside p v d) m) after closing at (h .small) e;
         counts-long = raised-long (c .depth - 1) counts ∙ h .counts-long;
         vars-long = h .vars-long;
+        name-inside = tt;
       },
     )
 
@@ -99,6 +100,7 @@ held-expecting c {s} at t h e = (
     small = judge-small s (state (s .rules) (s .part) expects) t at (h .small) e;
     counts-long = h .counts-long;
     vars-long = h .vars-long;
+    name-inside = tt;
   },
 )
 
@@ -180,6 +182,7 @@ stop-part {text} {counts} {vars} c cs (formulas (f ∷ fs)) m at h i z x =
         small = judge-small (state cs (formulas (f ∷ fs)) m) after stop at (h .small) e;
         counts-long = h .counts-long;
         vars-long = h .vars-long;
+        name-inside = tt;
       },
     )
 
@@ -210,6 +213,7 @@ opening-goes {text} {counts} c {s} at h e l =
         small = judge-small s after opening at (h .small) j;
         counts-long = length-set counts (c .depth) 0 ∙ h .counts-long;
         vars-long = h .vars-long;
+        name-inside = tt;
       },
     )
 

@@ -72,9 +72,9 @@ name-long {text} c {s} at r len h i e z l k =
     let w = word text at len in
     name-taken c at w h i ∙ sized-long (code s) (leb 33 (length w)) at (state (s .rules) (s .part) (named w)) (inv e ∙ z) (le-leb 33 (length w) (omega (arith, word-long text at len l)))
 
-pub name-goes : {text counts vars : List ℕ} (c : Stage) {s : State} (at r len : ℕ) → Held text counts vars c s → awaits (c .mode) ≡ true → r ≡ code s → r ≡ 0 → at + len ≤ length text → len < 33 →
+pub name-goes : {text counts vars : List ℕ} (c : Stage) {s : State} (at r len : ℕ) → Held text counts vars c s → awaits (c .mode) ≡ true → r ≡ code s → r ≡ 0 → at + len ≤ length text → at < 65536 → len < 33 →
     After text counts vars (judge-token s at (name (word text at len))) (Going (Stage.named c at len))
-name-goes {text} c {s} at r len h i e z l k =
+name-goes {text} c {s} at r len h i e z l low k =
     let w = word text at len in
     let after = state (s .rules) (s .part) (named w) in
     let j : judge-token s at (name w) ≡ going after =
@@ -91,6 +91,7 @@ name-goes {text} c {s} at r len h i e z l k =
         small = judge-small s after (name w) at (h .small) j;
         counts-long = h .counts-long;
         vars-long = h .vars-long;
+        name-inside = (l, low);
       },
     )
 
@@ -198,6 +199,7 @@ variable-part {text} {counts} {vars} c cs (inside p v d) m at r n w vars′ h i 
         small = judge-small (state cs q m) after (variable w) at (h .small) j;
         counts-long = raised-long (c .depth) counts ∙ h .counts-long;
         vars-long = k;
+        name-inside = tt;
       },
     )
 

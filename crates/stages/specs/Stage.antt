@@ -68,6 +68,13 @@ abbrev pub grown : ℕ → ℕ → ℕ
 grown zero n = n + 1
 grown (suc k) n = n
 
+-- the name whose bracket may follow stands in the text
+abbrev pub NameInside : List ℕ → Mode → ℕ → ℕ → Type 0
+NameInside text Between at len = Unit {0}
+NameInside text Expects at len = Unit {0}
+NameInside text Named at len = (at + len ≤ length text) × (at < 65536)
+NameInside text Complete at len = Unit {0}
+
 pub record Held (text counts vars : List ℕ) (c : Stage) (s : State) : Type 0 where
   pub mode-is : s .mode ≡ modeOf text (c .mode) (c .at) (c .len)
   pub deep : Deep counts (s .part) (c .depth)
@@ -78,6 +85,7 @@ pub record Held (text counts vars : List ℕ) (c : Stage) (s : State) : Type 0 w
   pub small : SmallState s
   pub counts-long : length counts ≡ 256
   pub vars-long : length vars ≡ 128
+  pub name-inside : NameInside text (c .mode) (c .at) (c .len)
 
 pub record Somewhere (counts : List ℕ) (c : Stage) : Type 0 where
   pub text : List ℕ

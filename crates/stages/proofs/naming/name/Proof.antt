@@ -42,7 +42,7 @@ named-requires c κs = search needs
 
 -- src/naming.rt:36:1
 returns-4 : tie.Need-returns-4
-returns-4 c = λ text vars s h l. moved (c .named .ensures) refl (name-goes _ _ _ _ h (sym (c .before .before .before .before .before .awaits .ensures) ∙ not-false _ (c .before .before .before .before .if1 .left)) (c .before .before .before .limit .ensures text vars s h) (c .before .before .if2 .left) l (c .before .if3 .left))
+returns-4 c = λ text vars s h l. moved (c .named .ensures) refl (name-goes _ _ _ _ h (sym (c .before .before .before .before .before .awaits .ensures) ∙ not-false _ (c .before .before .before .before .if1 .left)) (c .before .before .before .limit .ensures text vars s h) (c .before .before .if2 .left) l (c .before .before .before .before .before .before .before .pre .2) (c .before .if3 .left))
 
 pub name-spec : {M : Type 1} → statement M
 name-spec =
