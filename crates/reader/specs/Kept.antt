@@ -7,18 +7,18 @@ use Rattle.grammar.specs.Token.{Piece}
 use Rattle.grammar.specs.Front as Front
 use Rattle.grammar.specs.Syntax.{Rule}
 use Rattle.grammar.specs.Names.{rule-spots, text-spots, names-after, variable-number}
-use Rattle.reading.specs.Part.{Part, formulas, inside, State, rules-of}
+use Rattle.reading.specs.Part.{Part, formulas, inside, State, settle}
+use Rattle.reading.specs.LimitLaws.{SmallState}
 use Rattle.reading.specs.Reader as Reader
 use Rattle.reading.specs.Reader.{variables, judge}
 use Rattle.pieces.specs.Found as Found
 use Rattle.pieces.specs.Found.{frontAt}
 use Rattle.pieces.specs.declared.Found.{Found}
 use Rattle.pieces.specs.declared.Found.the-variants as F
-use Rattle.stages.specs.Stage.{Held}
+use Rattle.stages.specs.Stage.{rootCount}
 use Rattle.drafts.specs.declared.Draft.{Draft}
 use Rattle.drafts.specs.Drafted.{Tables, after, bytesOf}
 use Rattle.building.specs.Built.{Built}
-use Rattle.reader.specs.declared.Turn.{Turn}
 
 -- the names of rules, the last one first
 abbrev pub tablesOf : List Rule → Tables
@@ -56,13 +56,41 @@ Numbered text at F.HalfArrow v s = Unit {0}
 Numbered text at F.HalfStop v s = Unit {0}
 Numbered text at F.Nothing v s = Unit {0}
 
--- a piece leads from one state to another
-pub record Turning (text : List ℕ) (w : Turn) (s s′ : State) : Type 0 where
-  pub counts : List ℕ
-  pub vars : List ℕ
-  pub held : Held text counts vars (w .stage) s
+-- what is held of the book as long as it can still be of 32,768 bytes; and how long it is at least
+pub record Sofar (text out opens starts lens heads nexts : List ℕ) (b : Draft) (s : State) : Type 0 where
+  pub kept : b .from ≤ 32769 → Kept text out opens starts lens heads nexts b s
+  pub grown : b .from ≤ length (doneBytes (s .rules)) + 2
+
+-- a piece that is no opening bracket leads from one state, where no name waits for its bracket, to another
+pub record Step (text : List ℕ) (at depth n v : ℕ) (found : Found) (s s′ : State) : Type 0 where
+  pub depth-is : depth ≡ levels (s .part)
+  pub count-is : n ≡ rootCount (s .part)
+  pub small : SmallState s
+  pub settled : settle s ≡ s
   pub piece : Piece
   pub rest : List ℕ
-  pub shown : frontAt text (w .at) (w .found) ≡ Front.front piece rest
-  pub judged : judge s (w .at) piece ≡ Reader.going s′
-  pub numbered : Numbered text (w .at) (w .found) (w .v) s
+  pub shown : frontAt text at found ≡ Front.front piece rest
+  pub judged : judge s at piece ≡ Reader.going s′
+  pub numbered : Numbered text at found v s
+  pub few : v < 65536
+
+-- somewhere there is such a step
+pub record Steps (out opens : List ℕ) (b : Draft) (depth n v : ℕ) (found : Found) : Type 0 where
+  pub text : List ℕ
+  pub starts : List ℕ
+  pub lens : List ℕ
+  pub heads : List ℕ
+  pub nexts : List ℕ
+  pub at : ℕ
+  pub before : State
+  pub after : State
+  pub kept : Kept text out opens starts lens heads nexts b before
+  pub step : Step text at depth n v found before after
+
+pub record Stepped (out out′ opens : List ℕ) (b : Draft) (depth n v : ℕ) (found : Found) (r : Draft) : Type 0 where
+  pub sofar : (text starts lens heads nexts : List ℕ) (at : ℕ) (s s′ : State) → Kept text out opens starts lens heads nexts b s → Step text at depth n v found s s′ →
+      Sofar text out′ opens starts lens heads nexts r s′
+
+-- behind a rule that is finished
+abbrev pub ended : Draft → Draft
+ended b = record { from = b .from + b .len + 2; len = 0; constants = b .constants; compounds = b .compounds; predicates = b .predicates }

@@ -1,0 +1,3 @@
+-- What the proofs of the functions share.
+pub mod Stepping  -- what each piece adds to what is held
+pub mod Stopping  -- a full stop
