@@ -123,7 +123,7 @@ module _ {text : List ℕ} {at depth n v end : ℕ} {found : Found} {s s′ : St
 
 -- A closing bracket
 
-put-levels : (q : Part) (u : List ℕ) (own : _) → levels (put q u own) ≡ levels q
+pub put-levels : (q : Part) (u : List ℕ) (own : _) → levels (put q u own) ≡ levels q
 put-levels (formulas fs) u own = refl
 put-levels (inside p v d) u own = refl
 

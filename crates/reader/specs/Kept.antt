@@ -1,6 +1,7 @@
 -- The rules that are read, and the one that is read in part, as the program holds them.
 use Prim.Native.Nat.{ℕ, zero, suc, _+_, _-_, _≤_, _<_}
 use mathlib.Core.Path.{_≡_}
+use mathlib.Core.Bool.{Bool, true, false}
 use mathlib.Core.List.{List, [], _∷_, _++_}
 use lib.ListN.{length, take}
 use Rattle.grammar.specs.Token.{Piece}
@@ -15,10 +16,13 @@ use Rattle.pieces.specs.Found as Found
 use Rattle.pieces.specs.Found.{frontAt}
 use Rattle.pieces.specs.declared.Found.{Found}
 use Rattle.pieces.specs.declared.Found.the-variants as F
-use Rattle.stages.specs.Stage.{rootCount}
+use Rattle.stages.specs.Stage.{rootCount, Held}
+use Rattle.stages.specs.declared.Mode.{Mode}
+use Rattle.stages.specs.declared.Mode.the-variants.{Between, Expects, Named, Complete}
 use Rattle.drafts.specs.declared.Draft.{Draft}
 use Rattle.drafts.specs.Drafted.{Tables, after, bytesOf}
 use Rattle.building.specs.Built.{Built}
+use Rattle.reader.specs.declared.Turn.{Turn}
 
 -- the names of rules, the last one first
 abbrev pub tablesOf : List Rule → Tables
@@ -94,3 +98,32 @@ pub record Stepped (out out′ opens : List ℕ) (b : Draft) (depth n v : ℕ) (
 -- behind a rule that is finished
 abbrev pub ended : Draft → Draft
 ended b = record { from = b .from + b .len + 2; len = 0; constants = b .constants; compounds = b .compounds; predicates = b .predicates }
+
+-- a name waits for its bracket
+abbrev pub waits : Mode → Bool
+waits Between = false
+waits Expects = false
+waits Named = true
+waits Complete = false
+
+-- a piece leads from one state to another
+pub record Turning (text : List ℕ) (at : ℕ) (w : Turn) (s s′ : State) : Type 0 where
+  pub counts : List ℕ
+  pub vars : List ℕ
+  pub held : Held text counts vars (w .stage) s
+  pub piece : Piece
+  pub rest : List ℕ
+  pub shown : frontAt text at (w .found) ≡ Front.front piece rest
+  pub judged : judge s at piece ≡ Reader.going s′
+  pub numbered : Numbered text at (w .found) (w .v) s
+  pub few : w .v < 65536
+
+pub record Turns (text out opens starts lens heads nexts : List ℕ) (w : Turn) : Type 0 where
+  pub at : ℕ
+  pub before : State
+  pub after : State
+  pub kept : Kept text out opens starts lens heads nexts (w .draft) before
+  pub turning : Turning text at w before after
+
+pub record Built-on (text out out′ opens opens′ starts lens heads nexts starts′ lens′ heads′ nexts′ : List ℕ) (w : Turn) (r : Draft) : Type 0 where
+  pub sofar : (at : ℕ) (s s′ : State) → Kept text out opens starts lens heads nexts (w .draft) s → Turning text at w s s′ → Sofar text out′ opens′ starts′ lens′ heads′ nexts′ r s′

@@ -65,17 +65,17 @@ half-turned text counts vars s at found t j r e l k a q = subst (Turned text cou
 
 -- Before a piece that is no bracket a name stands alone
 
-abbrev opening-piece : Piece → Bool
+abbrev pub opening-piece : Piece → Bool
 opening-piece (token t) = is-opening t
 opening-piece (blank b) = false
 opening-piece (comment c) = false
 
-abbrev opening-front : Front.Front → Bool
+abbrev pub opening-front : Front.Front → Bool
 opening-front (front p rest) = opening-piece p
 opening-front (broken t) = is-opening t
 opening-front unexpected = false
 
-front-opening : (text : List ℕ) (at : ℕ) (found : Found) → opening-front (frontAt text at found) ≡ isOpening found
+pub front-opening : (text : List ℕ) (at : ℕ) (found : Found) → opening-front (frontAt text at found) ≡ isOpening found
 front-opening text at (F.Name end) = refl
 front-opening text at (F.Variable end) = refl
 front-opening text at F.Space = refl
@@ -95,7 +95,7 @@ settle-twice cs p expects = refl
 settle-twice cs p (named w) = refl
 settle-twice cs p complete = refl
 
-judge-settled : (s : State) (at : ℕ) (p : Piece) → opening-piece p ≡ false → judge (settle s) at p ≡ judge s at p
+pub judge-settled : (s : State) (at : ℕ) (p : Piece) → opening-piece p ≡ false → judge (settle s) at p ≡ judge s at p
 judge-settled s at (token t) h = settle-judge s t at h
 judge-settled s at (blank b) h = ap going (settle-twice (s .rules) (s .part) (s .mode))
 judge-settled s at (comment c) h = ap going (settle-twice (s .rules) (s .part) (s .mode))

@@ -48,7 +48,7 @@ pub enum Judged {
     Bad(usize, usize),
 }
 
-fn is_opening(found: Found) -> bool
+pub fn is_opening(found: Found) -> bool
     ensures { λ r. ⌜ r ≡ isOpening found ⌝ }
 {
     match found {
