@@ -15,6 +15,8 @@ ghost use Prim.Native.Nat.{_<_, _≤_};
 ghost use Rattle.stages.specs.Stage.{grown};
 ghost use Rattle.reader.specs.Kept.{Steps, Stepped, Turns, Built-on, ended, waits};
 
+pub mod walking; // one pass over a text
+
 // Behind the rule that is finished.
 fn ended(b: Draft) -> Draft
     requires { ⌜ (b .from ≤ 32769) × (b .len ≤ 1024) ⌝ }
