@@ -8,7 +8,7 @@ use lib.ListN.{length, length-append}
 use Rattle.terms.specs.Node.{Expr, var, sym}
 use Rattle.terms.specs.When.{_⇒_∣_}
 use Rattle.terms.specs.Cases.{cases}
-use Rattle.records.specs.Format.{encodeRecord, encode, nodeRecord, nodeRecords}
+use Rattle.format.specs.Format.{encodeRecord, encode, nodeRecord, nodeRecords}
 use Rattle.grammar.specs.Names as Names
 use Rattle.grammar.specs.Names.{Sort, Spot, variable-spot, symbol-spot, place, within, grow, is-sort, names-after, variable-number, with-variable, variables-after, symbol-of}
 use Rattle.grammar.specs.NameLaws.{place-outside, same-refl}

@@ -5,7 +5,7 @@ use mathlib.Core.List.{List, [], _∷_, _++_}
 use native.Mathlib.Omega.{arith}
 use lib.ListN.{length, getD, set, take, drop, length-set, length-drop}
 use lib.Seq.{length-take-le}
-use Rattle.records.specs.Format.{encode, nodeRecords}
+use Rattle.format.specs.Format.{encode, nodeRecords}
 use Rattle.grammar.specs.Names as Names
 use Rattle.grammar.specs.Names.{Sort, Spot, variable-spot, symbol-spot, place, grow, names-after, variable-number, with-variable, variables-after}
 use Rattle.grammar.specs.GrowLaws.{with-symbol, numbered-on}

@@ -6,7 +6,7 @@ use lib.ListN.{length, take}
 use Rattle.grammar.specs.Names as Names
 use Rattle.grammar.specs.Names.{Sort, Spot, variable-spot, symbol-spot, names-after}
 use Rattle.grammar.specs.GrowLaws.{numbered-on}
-use Rattle.records.specs.Format.{encode, nodeRecords}
+use Rattle.format.specs.Format.{encode, nodeRecords}
 use Rattle.symbols.specs.declared.Section.{Section}
 use Rattle.symbols.specs.Sections.{part, Holds}
 use Rattle.drafts.specs.declared.Kind.{Kind}
