@@ -31,14 +31,20 @@ place-after k w seen (variable-spot v ∷ e) h = place-after k w seen e h
 place-after k w seen (symbol-spot j v n ∷ e) h =
     cases (is-sort k j) (λ t. rw t (place-after k w (grow seen v) e (within-grow w v seen h) ∙ place-grow w v seen h)) (λ t. rw t (place-after k w seen e h))
 
+pub within-after : (k : Sort) (w : List ℕ) (seen : List (List ℕ)) (e : List Spot) → within w seen ≡ true → within w (names-after k seen e) ≡ true
+within-after k w seen [] h = h
+within-after k w seen (variable-spot v ∷ e) h = within-after k w seen e h
+within-after k w seen (symbol-spot j v n ∷ e) h =
+    cases (is-sort k j) (λ t. rw t (within-after k w (grow seen v) e (within-grow w v seen h))) (λ t. rw t (within-after k w seen e h))
+
 within-last : (w : List ℕ) (l : List (List ℕ)) → within w (l ++ (w ∷ [])) ≡ true
 within-last w [] = rw (same-refl w)
 within-last w (v ∷ l) = cases (same-name w v) (λ t. rw t) (λ t. rw t (within-last w l))
 
-within-grown : (w : List ℕ) (l : List (List ℕ)) → within w (grow l w) ≡ true
+pub within-grown : (w : List ℕ) (l : List (List ℕ)) → within w (grow l w) ≡ true
 within-grown w l = cases (within w l) (λ t. rw t t) (λ t. rw t (within-last w l))
 
-is-sort-self : (k : Sort) → is-sort k k ≡ true
+pub is-sort-self : (k : Sort) → is-sort k k ≡ true
 is-sort-self Constant = refl
 is-sort-self Compound = refl
 is-sort-self Predicate = refl

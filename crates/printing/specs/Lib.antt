@@ -3,3 +3,9 @@ pub mod Spacing
 pub mod SpacingLaws
 pub mod Named
 pub mod NamedLaws
+pub mod DigitLaws
+pub mod FirstLaws
+pub mod Renumbered
+pub mod RenumberLaws
+pub mod UseLaws
+pub mod OrderLaws

@@ -1,0 +1,107 @@
+-- What is named and numbered again by the places of its names is renumbered by these places; its variables keep their numbers.
+use Prim.Native.Nat.{ℕ, _≤_, _<_}
+use mathlib.Core.Path.{_≡_, refl, ap, ap₂, _∙_}
+use mathlib.Core.List.{List, [], _∷_, _++_, map}
+use native.Mathlib.Omega.{arith}
+use Rattle.terms.specs.Node.{constant, compound, predicate, var, sym, Expr}
+use Rattle.search.specs.Next as Next
+use Rattle.words.specs.Flat.{flat}
+use Rattle.format.specs.Reading.{nextUnused}
+use Rattle.format.specs.Format.{Below, AreFormulas, GoodClause, GoodClauses}
+use Rattle.terms.specs.Cases.{cases}
+use Rattle.format.proofs.Numbering.{Ordered, ordered, unused-same, unused-other}
+use borrow.Author.Tests.{eqb-true, eqb-false}
+use lib.Dec.{eqb}
+use Rattle.grammar.specs.Syntax.{Rule}
+use Rattle.grammar.specs.Names.{Sort, place, variable-number, with-variable, variables-after, formula-spots, numbered, numbered-all, clause}
+use Rattle.printing.specs.Named.{Naming, variable-name, named-formula, named-formulas, named-rule, named-rules}
+use Rattle.printing.specs.NamedLaws.{spots, formula-spotted}
+use Rattle.printing.specs.DigitLaws.{name-one}
+use Rattle.printing.specs.FirstLaws.{names-below, Follows, follows}
+use Rattle.printing.specs.Renumbered.{Renumbering, renumber, renumber-goal, renumber-clause, renumber-book}
+
+-- the first m variables, by their names
+abbrev variables : ℕ → List (List ℕ)
+variables m = names-below variable-name m
+
+seen-variable : (m v : ℕ) (l : v < 100000) → m ≤ 100000 → v ≤ m → Follows variable-name (λ n. n < 100000) name-one v l m
+seen-variable m v l k h = follows variable-name (λ n. n < 100000) name-one v l m (λ n q. omega arith) h
+
+next-low : (most m v : ℕ) → v < most → m ≤ most → nextUnused m v ≤ most
+next-low most m v l k =
+    cases (eqb v m) (λ t. let e = eqb-true v m t in rw (unused-same m v e) (omega arith)) (λ t. rw (unused-other m v (eqb-false v m t)) k)
+
+-- how many variables are seen behind e, after m
+abbrev seen-behind : ℕ → Expr → ℕ
+seen-behind m [] = m
+seen-behind m (var v ∷ e) = seen-behind (nextUnused m v) e
+seen-behind m (sym s ∷ e) = seen-behind m e
+
+ordered-front : (m : ℕ) (d e : Expr) → Ordered m (d ++ e) → Ordered m d
+ordered-front m [] e o = tt
+ordered-front m (var v ∷ d) e o = (o .0, ordered-front (nextUnused m v) d e (o .1))
+ordered-front m (sym s ∷ d) e o = ordered-front m d e o
+
+ordered-back : (m : ℕ) (d e : Expr) → Ordered m (d ++ e) → Ordered (seen-behind m d) e
+ordered-back m [] e o = o
+ordered-back m (var v ∷ d) e o = ordered-back (nextUnused m v) d e (o .1)
+ordered-back m (sym s ∷ d) e o = ordered-back m d e o
+
+behind-low : (most m : ℕ) (e : Expr) → Below most e → m ≤ most → seen-behind m e ≤ most
+behind-low most m [] b k = k
+behind-low most m (var v ∷ e) b k = behind-low most (nextUnused m v) e (b .1) (next-low most m v (b .0) k)
+behind-low most m (sym s ∷ e) b k = behind-low most m e b k
+
+below-front : (n : ℕ) (d e : Expr) → Below n (d ++ e) → Below n d
+below-front n [] e b = tt
+below-front n (var v ∷ d) e b = (b .0, below-front n d e (b .1))
+below-front n (sym s ∷ d) e b = below-front n d e b
+
+below-back : (n : ℕ) (d e : Expr) → Below n (d ++ e) → Below n e
+below-back n [] e b = b
+below-back n (var v ∷ d) e b = below-back n d e (b .1)
+below-back n (sym s ∷ d) e b = below-back n d e b
+
+module _ (name : Naming) (table : Sort → List (List ℕ)) where
+  abbrev pub places : Renumbering
+  places k n = place (name k n) (table k)
+
+  module _ (most : ℕ) (low : most ≤ 100000) where
+    named-numbered : (m : ℕ) (e : Expr) → m ≤ most → Ordered m e → Below most e → numbered table (variables m) (spots name e) ≡ renumber places e
+    named-numbered m [] k o b = refl
+    named-numbered m (var v ∷ e) k o b =
+        let s = seen-variable m v (omega (arith, b .0)) (omega arith) (o .0) in
+        ap₂ (λ (n : ℕ) (x : Expr). var n ∷ x) (s .at) (ap (λ (l : List (List ℕ)). numbered table l (spots name e)) (s .seen) ∙ named-numbered (nextUnused m v) e (next-low most m v (b .0) k) (o .1) (b .1))
+    named-numbered m (sym (constant c) ∷ e) k o b = rw (named-numbered m e k o b)
+    named-numbered m (sym (compound f n) ∷ e) k o b = rw (named-numbered m e k o b)
+    named-numbered m (sym (predicate p n) ∷ e) k o b = rw (named-numbered m e k o b)
+
+    named-seen : (m : ℕ) (e : Expr) → m ≤ most → Ordered m e → Below most e → variables-after (variables m) (spots name e) ≡ variables (seen-behind m e)
+    named-seen m [] k o b = refl
+    named-seen m (var v ∷ e) k o b =
+        let s = seen-variable m v (omega (arith, b .0)) (omega arith) (o .0) in
+        ap (λ (l : List (List ℕ)). variables-after l (spots name e)) (s .seen) ∙ named-seen (nextUnused m v) e (next-low most m v (b .0) k) (o .1) (b .1)
+    named-seen m (sym (constant c) ∷ e) k o b = named-seen m e k o b
+    named-seen m (sym (compound f n) ∷ e) k o b = named-seen m e k o b
+    named-seen m (sym (predicate p n) ∷ e) k o b = named-seen m e k o b
+
+    goal-numbered : (m : ℕ) (g : Next.Goal) → m ≤ most → AreFormulas g → Ordered m (flat g) → Below most (flat g) → numbered-all table (variables m) (named-formulas name g) ≡ renumber-goal places g
+    goal-numbered m [] k h o b = refl
+    goal-numbered m (f ∷ g) k h o b =
+        let s = formula-spotted name f (h .0) in
+        let p = ordered-front m f (flat g) o in
+        let q = below-front most f (flat g) b in
+        ap₂ (λ (e : Expr) (r : Next.Goal). e ∷ r) (ap (numbered table (variables m)) s ∙ named-numbered m f k p q)
+        (ap (λ (l : List (List ℕ)). numbered-all table l (named-formulas name g)) (ap (variables-after (variables m)) s ∙ named-seen m f k p q)
+        ∙ goal-numbered (seen-behind m f) g (behind-low most m f q k) (h .1) (ordered-back m f (flat g) o) (below-back most f (flat g) b))
+
+  clause-numbered : (c : Next.Clause) → GoodClause c → clause table (named-rule name c) ≡ renumber-clause places c
+  clause-numbered c good = of-goal (goal-numbered 64 (omega arith) 0 (c .head ∷ c .body) (omega arith) (good .formulas) (ordered (c .head ∷ c .body) (good .fitting .numbered)) (good .fitting .below))
+    where
+      of-goal : numbered-all table [] (named-formulas name (c .head ∷ c .body)) ≡ renumber-goal places (c .head ∷ c .body) → clause table (named-rule name c) ≡ renumber-clause places c
+      of-goal e = cc
+
+  -- a good book that is named, and numbered by any table of names
+  pub book-numbered : (b : Next.Book) → GoodClauses b → map (clause table) (named-rules name b) ≡ renumber-book places b
+  book-numbered [] h = refl
+  book-numbered (c ∷ b) h = ap₂ _∷_ (clause-numbered c (h .0)) (book-numbered b (h .1))
