@@ -9,3 +9,6 @@ pub mod Renumbered
 pub mod RenumberLaws
 pub mod UseLaws
 pub mod OrderLaws
+pub mod SizeLaws
+pub mod ImageLaws
+pub mod Theorem

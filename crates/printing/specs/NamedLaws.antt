@@ -29,7 +29,7 @@ spots-append name (x ∷ d) e = ap (λ (l : List Spot). spot name x ∷ l) (spot
 
 -- A row of terms cut in two
 
-first-count : (n : ℕ) (ts : Terms) → n ≤ count ts → count (first-terms n ts) ≡ n
+pub first-count : (n : ℕ) (ts : Terms) → n ≤ count ts → count (first-terms n ts) ≡ n
 first-count zero ts h = refl
 first-count (suc n) none h = absurd (omega arith)
 first-count (suc n) (variable-then w ts) h = ap suc (first-count n ts (omega arith))

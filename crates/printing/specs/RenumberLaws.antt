@@ -12,16 +12,17 @@ use Rattle.terms.specs.Cases.{cases}
 use Rattle.format.proofs.Numbering.{Ordered, ordered, unused-same, unused-other}
 use borrow.Author.Tests.{eqb-true, eqb-false}
 use lib.Dec.{eqb}
+use lib.ListN.{length}
 use Rattle.grammar.specs.Syntax.{Rule}
 use Rattle.grammar.specs.Names.{Sort, place, variable-number, with-variable, variables-after, formula-spots, numbered, numbered-all, clause}
 use Rattle.printing.specs.Named.{Naming, variable-name, named-formula, named-formulas, named-rule, named-rules}
 use Rattle.printing.specs.NamedLaws.{spots, formula-spotted}
 use Rattle.printing.specs.DigitLaws.{name-one}
-use Rattle.printing.specs.FirstLaws.{names-below, Follows, follows}
+use Rattle.printing.specs.FirstLaws.{names-below, below-length, Follows, follows}
 use Rattle.printing.specs.Renumbered.{Renumbering, renumber, renumber-goal, renumber-clause, renumber-book}
 
 -- the first m variables, by their names
-abbrev variables : ℕ → List (List ℕ)
+abbrev pub variables : ℕ → List (List ℕ)
 variables m = names-below variable-name m
 
 seen-variable : (m v : ℕ) (l : v < 100000) → m ≤ 100000 → v ≤ m → Follows variable-name (λ n. n < 100000) name-one v l m
@@ -85,7 +86,7 @@ module _ (name : Naming) (table : Sort → List (List ℕ)) where
     named-seen m (sym (compound f n) ∷ e) k o b = named-seen m e k o b
     named-seen m (sym (predicate p n) ∷ e) k o b = named-seen m e k o b
 
-    goal-numbered : (m : ℕ) (g : Next.Goal) → m ≤ most → AreFormulas g → Ordered m (flat g) → Below most (flat g) → numbered-all table (variables m) (named-formulas name g) ≡ renumber-goal places g
+    pub goal-numbered : (m : ℕ) (g : Next.Goal) → m ≤ most → AreFormulas g → Ordered m (flat g) → Below most (flat g) → numbered-all table (variables m) (named-formulas name g) ≡ renumber-goal places g
     goal-numbered m [] k h o b = refl
     goal-numbered m (f ∷ g) k h o b =
         let s = formula-spotted name f (h .0) in
@@ -94,6 +95,10 @@ module _ (name : Naming) (table : Sort → List (List ℕ)) where
         ap₂ (λ (e : Expr) (r : Next.Goal). e ∷ r) (ap (numbered table (variables m)) s ∙ named-numbered m f k p q)
         (ap (λ (l : List (List ℕ)). numbered-all table l (named-formulas name g)) (ap (variables-after (variables m)) s ∙ named-seen m f k p q)
         ∙ goal-numbered (seen-behind m f) g (behind-low most m f q k) (h .1) (ordered-back m f (flat g) o) (below-back most f (flat g) b))
+
+    -- not more variables than there may be numbers
+    pub variables-low : (e : Expr) → Ordered 0 e → Below most e → length (variables-after [] (spots name e)) ≤ most
+    variables-low e o b = omega (arith, ap length (named-seen 0 e (omega arith) o b), below-length variable-name (seen-behind 0 e), behind-low most 0 e b (omega arith))
 
   clause-numbered : (c : Next.Clause) → GoodClause c → clause table (named-rule name c) ≡ renumber-clause places c
   clause-numbered c good = of-goal (goal-numbered 64 (omega arith) 0 (c .head ∷ c .body) (omega arith) (good .formulas) (ordered (c .head ∷ c .body) (good .fitting .numbered)) (good .fitting .below))
