@@ -49,7 +49,7 @@ module _ (table : Sort → List (List ℕ)) where
 
 -- One sort
 
-same-sort : (k j : Sort) → is-sort k j ≡ true → j ≡ k
+pub same-sort : (k j : Sort) → is-sort k j ≡ true → j ≡ k
 same-sort Constant Constant e = refl
 same-sort Constant Compound e = let z : _≡_ {A = ℕ} 0 1 = cc in absurd (omega arith)
 same-sort Constant Predicate e = let z : _≡_ {A = ℕ} 0 1 = cc in absurd (omega arith)
@@ -95,7 +95,7 @@ names-more k seen (symbol-spot j w n ∷ e) =
     (λ t. rw t (omega (arith, grow-more seen w, names-more k (grow seen w) e)))
     (λ t. rw t (names-more k seen e))
 
-symbol-same : (j k : Sort) (m n a b : ℕ) → sym (symbol-of j m a) ≡ sym (symbol-of k n b) → (j ≡ k) × (m ≡ n)
+pub symbol-same : (j k : Sort) (m n a b : ℕ) → sym (symbol-of j m a) ≡ sym (symbol-of k n b) → (j ≡ k) × (m ≡ n)
 symbol-same Constant Constant m n a b e = (refl, cc)
 symbol-same Constant Compound m n a b e = let z : _≡_ {A = ℕ} 0 1 = cc in absurd (omega arith)
 symbol-same Constant Predicate m n a b e = let z : _≡_ {A = ℕ} 0 1 = cc in absurd (omega arith)
