@@ -1,0 +1,3 @@
+-- What printing answers and what that means; the text record by record.
+pub mod Walk
+pub mod WalkLaws
