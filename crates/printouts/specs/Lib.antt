@@ -1,3 +1,5 @@
 -- What printing answers and what that means; the text record by record.
 pub mod Walk
 pub mod WalkLaws
+pub mod Outcome
+pub mod OutcomeLaws

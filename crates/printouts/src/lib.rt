@@ -3,6 +3,6 @@
 // "code, place"; and the text's bytes.
 pub struct Printout {
     pub code: u8,
-    pub place: u32,
-    pub bytes: u32,
+    pub place: usize,
+    pub bytes: usize,
 }
