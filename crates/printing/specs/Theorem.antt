@@ -55,7 +55,7 @@ module _ (name : Naming) (b : Next.Book) (good : GoodBook b) (fit : AllFit name 
     coded : Coded (names cs) (text-spots cs) (book-nodes b)
     coded = subst (λ (c : Next.Book). Coded (names cs) (text-spots cs) (book-nodes c)) (inv is) (book-coded (names cs) cs)
 
-    low-one : (k : Sort) (v w : ℕ) → v < length (names cs k) → w < length (names cs k) → name k v ≡ name k w → v ≡ w
+    pub low-one : (k : Sort) (v w : ℕ) → v < length (names cs k) → w < length (names cs k) → name k v ≡ name k w → v ≡ w
     low-one k v w p q e = distinct k v w (used v p) (used w q) e
       where
         used : (n : ℕ) → n < length (names cs k) → Uses k n (book-nodes b)

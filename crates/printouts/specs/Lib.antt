@@ -3,3 +3,6 @@ pub mod Walk
 pub mod WalkLaws
 pub mod Outcome
 pub mod OutcomeLaws
+pub mod SpeltLaws
+pub mod OwnLaws
+pub mod Again
