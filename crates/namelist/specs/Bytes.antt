@@ -82,5 +82,9 @@ abbrev pub all-unshared : List Entry → Bool
 all-unshared [] = true
 all-unshared (x ∷ l) = unshared x l ⇒ all-unshared l ∣ false
 
+-- the same of two entries at their places
+abbrev pub shares-at : List ℕ → ℕ → ℕ → Bool
+shares-at s a b = eqb (getD s a 0) (getD s b 0) && same-name (name-at s a) (name-at s b)
+
 unfoldable pub is-list : List ℕ → Bool
 is-list s = good-from (suc (length s)) s 0 0 ⇒ all-unshared (entries-of s) ∣ false

@@ -11,15 +11,15 @@ use lib.Seq.{drop-cons}
 use Rattle.grammar.specs.Names.{same-name}
 use Rattle.nametable.specs.Table.{word, hash-from, hash}
 
-word-whole : (s : List ℕ) (at len : ℕ) → word s (at + 0) (len - 0) ≡ word s at len
+pub word-whole : (s : List ℕ) (at len : ℕ) → word s (at + 0) (len - 0) ≡ word s at len
 word-whole s at len = ap₂ (word s) (let q : at + 0 ≡ at = omega arith in q) (let q : len - 0 ≡ len = omega arith in q)
 
-word-next : (s : List ℕ) (at len i : ℕ) → at + len ≤ length s → i < len → word s (at + i) (len - i) ≡ getD s (at + i) 0 ∷ word s (at + (i + 1)) (len - (i + 1))
+pub word-next : (s : List ℕ) (at len i : ℕ) → at + len ≤ length s → i < len → word s (at + i) (len - i) ≡ getD s (at + i) 0 ∷ word s (at + (i + 1)) (len - (i + 1))
 word-next s at len i h l =
     ap₂ take (let q : len - i ≡ suc (len - (i + 1)) = omega arith in q) (drop-cons s (at + i) 0 (omega arith))
     ∙ ap (λ (k : ℕ). getD s (at + i) 0 ∷ word s k (len - (i + 1))) (let q : suc (at + i) ≡ at + (i + 1) = omega arith in q)
 
-word-none : (s : List ℕ) (at len i : ℕ) → i ≤ len → len ≤ i → word s (at + i) (len - i) ≡ []
+pub word-none : (s : List ℕ) (at len i : ℕ) → i ≤ len → len ≤ i → word s (at + i) (len - i) ≡ []
 word-none s at len i h l = ap (λ (k : ℕ). take k (drop (at + i) s)) (let q : len - i ≡ 0 = omega arith in q)
 
 -- The hash

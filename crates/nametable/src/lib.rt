@@ -13,7 +13,7 @@ fn wide(x: u8) -> usize
     x as usize
 }
 
-fn byte(text: &[u8], at: usize) -> usize
+pub fn byte(text: &[u8], at: usize) -> usize
     requires { ⌜ at < length (now text) ⌝ }
     ensures { λ r. ⌜ (r ≡ getD (now (text .entry)) at 0) × (r < 256) ⌝ }
 {

@@ -38,7 +38,7 @@ pub enum Found {
 }
 
 // "a small ASCII letter"
-fn small(b: u8) -> bool
+pub fn small(b: u8) -> bool
     ensures { λ r. ⌜ r ≡ small b ⌝ }
 {
     97 <= b && b <= 122
@@ -57,7 +57,7 @@ fn digit(b: u8) -> bool
 }
 
 // "then letters, digits or underscores"
-fn goes_on(b: u8) -> bool
+pub fn goes_on(b: u8) -> bool
     ensures { λ r. ⌜ r ≡ goes-on b ⌝ }
 {
     if small(b) {
