@@ -1,5 +1,6 @@
 -- What printing answers and what that means; the text record by record.
 pub mod Walk
+pub mod Laying
 pub mod WalkLaws
 pub mod Outcome
 pub mod OutcomeLaws
