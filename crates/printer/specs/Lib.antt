@@ -1,0 +1,2 @@
+-- What the printer's parts do.
+pub mod Parts
