@@ -1,11 +1,20 @@
 // Prints a book, or a goal, with its name list as text (document 02, C-14).
 use crate::laying::put;
+use crate::laying::put_symbol;
+use crate::laying::put_variable;
 ghost use mathlib.Core.Path.{_≡_};
+ghost use mathlib.Core.List.{List, [], _∷_};
 ghost use Prim.Native.Nat.{ℕ, _+_, _<_, _≤_};
 ghost use lib.ListN.{length, drop};
-ghost use Rattle.printouts.specs.Walk.{begun, deeper};
+ghost use lib.Dec.{eqb};
+ghost use Rattle.terms.specs.When.{_⇒_∣_};
+ghost use Rattle.format.specs.declared.Record.the-variants.{Variable, Constant, Compound, Formula, Clause, Goal, End};
+ghost use Rattle.printing.specs.Named.{Naming};
+ghost use Rattle.namelist.specs.List.{Entry, naming};
+ghost use Rattle.namelist.specs.ListLaws.{Stands};
+ghost use Rattle.printouts.specs.Walk.{begun, deeper, sign, ending};
 ghost use Rattle.printouts.specs.Laying.{Lays};
-ghost use Rattle.printer.specs.Parts.{comma, full, Room, Closed, Ended};
+ghost use Rattle.printer.specs.Parts.{comma, full, Room, Closed, Ended, Wrote};
 
 mod laying;
 
@@ -89,5 +98,120 @@ fn end_term(area: &mut [u8], stack: &mut [u8], pen: Pen) -> Pen
         at: end,
         top: closed.top,
         turn: pen.turn,
+    }
+}
+
+fn put_two(area: &mut [u8], at: usize, a: u8, b: u8) -> usize
+    ensures { λ r. ⌜ Lays (now (area .entry)) (now (area .exit)) at r (a ∷ b ∷ []) ⌝ }
+{
+    let end = put(area, at, a);
+    put(area, end, b)
+}
+
+// What stands before a formula.
+fn put_sign(area: &mut [u8], at: usize, turn: usize) -> usize
+    ensures { λ r. ⌜ Lays (now (area .entry)) (now (area .exit)) at r (sign turn) ⌝ }
+{
+    if turn == 2 {
+        let end = put_two(area, at, 32, 58);
+        return put_two(area, end, 45, 32);
+    }
+    if turn == 3 {
+        return put_two(area, at, 44, 32);
+    }
+    at
+}
+
+// "one clause a line ended by LF"
+fn put_ending(area: &mut [u8], at: usize, turn: usize) -> usize
+    ensures { λ r. ⌜ Lays (now (area .entry)) (now (area .exit)) at r (ending turn) ⌝ }
+{
+    if turn == 0 {
+        return at;
+    }
+    put_two(area, at, 46, 10)
+}
+
+fn next_turn(turn: usize) -> usize
+    ensures { λ r. ⌜ r ≡ (eqb turn 1 ⇒ 2 ∣ 3) ⌝ }
+{
+    if turn == 1 {
+        return 2;
+    }
+    3
+}
+
+fn write_variable(area: &mut [u8], stack: &mut [u8], pen: Pen, v: usize) -> Pen
+    requires { ⌜ Room (now stack) (pen .top) × (v < 65536) ⌝ }
+    ensures { λ r. ⌜ ((name : Naming) → Wrote name (now (area .entry)) (now (area .exit)) (now (stack .entry)) (now (stack .exit)) pen r (Variable v)) ⌝ }
+{
+    let end = put_variable(area, pen.at, v);
+    let next = Pen {
+        at: end,
+        top: pen.top,
+        turn: pen.turn,
+    };
+    end_term(area, stack, next)
+}
+
+fn write_constant(area: &mut [u8], names: &[u8], stack: &mut [u8], pen: Pen, c: usize) -> Pen
+    requires { ⌜ ((l : List Entry) × Stands (now names) 0 l) ⌝ }
+    requires { ⌜ Room (now stack) (pen .top) ⌝ }
+    ensures { λ r. ⌜ ((l : List Entry) → Stands (now (names .entry)) 0 l → Wrote (naming l) (now (area .entry)) (now (area .exit)) (now (stack .entry)) (now (stack .exit)) pen r (Constant c)) ⌝ }
+{
+    let end = put_symbol(area, pen.at, names, 2, c);
+    let next = Pen {
+        at: end,
+        top: pen.top,
+        turn: pen.turn,
+    };
+    end_term(area, stack, next)
+}
+
+fn write_compound(area: &mut [u8], names: &[u8], stack: &mut [u8], pen: Pen, f: usize, n: u8) -> Pen
+    requires { ⌜ ((l : List Entry) × Stands (now names) 0 l) ⌝ }
+    requires { ⌜ Room (now stack) (pen .top) ⌝ }
+    ensures { λ r. ⌜ ((l : List Entry) → Stands (now (names .entry)) 0 l → Wrote (naming l) (now (area .entry)) (now (area .exit)) (now (stack .entry)) (now (stack .exit)) pen r (Compound f n)) ⌝ }
+{
+    let name = put_symbol(area, pen.at, names, 3, f);
+    let end = put(area, name, 40);
+    begin(stack, pen.top);
+    let top = deepen(stack, pen.top, n);
+    Pen {
+        at: end,
+        top,
+        turn: pen.turn,
+    }
+}
+
+fn write_formula(area: &mut [u8], names: &[u8], stack: &mut [u8], pen: Pen, p: usize, n: u8) -> Pen
+    requires { ⌜ ((l : List Entry) × Stands (now names) 0 l) ⌝ }
+    requires { ⌜ Room (now stack) (pen .top) ⌝ }
+    ensures { λ r. ⌜ ((l : List Entry) → Stands (now (names .entry)) 0 l → Wrote (naming l) (now (area .entry)) (now (area .exit)) (now (stack .entry)) (now (stack .exit)) pen r (Formula p n)) ⌝ }
+{
+    let sign = put_sign(area, pen.at, pen.turn);
+    let name = put_symbol(area, sign, names, 4, p);
+    let turn = next_turn(pen.turn);
+    if n == 0 {
+        return Pen {
+            at: name,
+            top: 4096,
+            turn,
+        };
+    }
+    let end = put(area, name, 40);
+    let top = deepen(stack, 4096, n);
+    Pen { at: end, top, turn }
+}
+
+// A clause, or the end of the book: the clause before it ends.
+fn write_ending(area: &mut [u8], pen: Pen, turn: usize) -> Pen
+    ensures { λ r. ⌜ Lays (now (area .entry)) (now (area .exit)) (pen .at) (r .at) (ending (pen .turn)) × (r .top ≡ 4096) × (r .turn ≡ turn) ⌝ }
+{
+    let end = put_ending(area, pen.at, pen.turn);
+    Pen {
+        at: end,
+        top: 4096,
+        turn,
     }
 }
