@@ -18,7 +18,7 @@ use Rattle.drafts.specs.declared.Kind.the-variants.{Constant, Compound, 
 use Rattle.drafts.specs.Writing.{symbolBytes}
 use Rattle.drafts.specs.Drafted.{sortOf, Tables, after, bytesOf}
 
-encode-append : (a b : List _) → encode (a ++ b) ≡ encode a ++ encode b
+pub encode-append : (a b : List _) → encode (a ++ b) ≡ encode a ++ encode b
 encode-append [] b = refl
 encode-append (r ∷ a) b = ap (λ (l : List ℕ). encodeRecord r ++ l) (encode-append a b) ∙ inv (append-assoc (encodeRecord r) (encode a) (encode b))
 
@@ -26,7 +26,7 @@ records-append : (a b : Expr) → nodeRecords (a ++ b) ≡ nodeRecords a ++ node
 records-append [] b = refl
 records-append (x ∷ a) b = ap (λ (l : List _). nodeRecord x ∷ l) (records-append a b)
 
-on-append : (T : Tables) (seen : List (List ℕ)) (a b : List Spot) → numbered-on T seen (a ++ b) ≡ numbered-on T seen a ++ numbered-on (after T a) (variables-after seen a) b
+pub on-append : (T : Tables) (seen : List (List ℕ)) (a b : List Spot) → numbered-on T seen (a ++ b) ≡ numbered-on T seen a ++ numbered-on (after T a) (variables-after seen a) b
 on-append T seen [] b = refl
 on-append T seen (variable-spot w ∷ a) b = ap (λ (x : Expr). var (variable-number seen w) ∷ x) (on-append T (with-variable seen w) a b)
 on-append T seen (symbol-spot k w n ∷ a) b = ap (λ (x : Expr). sym (symbol-of k (place w (grow (T k) w)) n) ∷ x) (on-append (with-symbol T k w) seen a b)
@@ -49,7 +49,7 @@ place-last w (v ∷ l) h = cases (Names.same-name w v) (λ t. let z : _≡_ {A =
 pub place-grown : (w : List ℕ) (l : List (List ℕ)) → place w (grow l w) ≡ place w l
 place-grown w l = cases (within w l) (λ t. rw t refl) (λ t. rw t (place-last w l t ∙ inv (place-outside w l t)))
 
-names-append : (k : Sort) (seen : List (List ℕ)) (a b : List Spot) → names-after k seen (a ++ b) ≡ names-after k (names-after k seen a) b
+pub names-append : (k : Sort) (seen : List (List ℕ)) (a b : List Spot) → names-after k seen (a ++ b) ≡ names-after k (names-after k seen a) b
 names-append k seen [] b = refl
 names-append k seen (variable-spot w ∷ a) b = names-append k seen a b
 names-append k seen (symbol-spot j w n ∷ a) b = names-append k (is-sort k j ⇒ grow seen w ∣ seen) a b

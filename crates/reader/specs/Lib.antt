@@ -1,3 +1,4 @@
 pub mod Effect
 pub mod Kept
 pub mod Walking
+pub mod Book
