@@ -100,7 +100,7 @@ written T [] r h = refl
 written T (c ∷ cs) r h =
     let s : (k : Sort) → T k ≡ after (tablesOf cs) (rule-spots c ++ r) k = λ k. h k ∙ inv (names-append k (tablesOf cs k) (rule-spots c) r) in
     let e : numbered-on (tablesOf cs) [] (rule-spots c) ≡ numbered T [] (rule-spots c) =
-        more-names (tablesOf cs) [] (rule-spots c) r ∙ same-numbers (after (tablesOf cs) (rule-spots c ++ r)) T [] (rule-spots c) (λ k. inv (s k)) in
+    more-names (tablesOf cs) [] (rule-spots c) r ∙ same-numbers (after (tablesOf cs) (rule-spots c ++ r)) T [] (rule-spots c) (λ k. inv (s k)) in
     ap₂ (λ (x : List ℕ) (y : Expr). x ++ (5 ∷ length (c .body) ∷ encode (nodeRecords y))) (written T cs (rule-spots c ++ r) s) e
     ∙ ap (λ (l : List ℕ). rulesBytes T (rules-of cs []) ++ l) (inv (append-nil (ruleBytes T c)))
     ∙ inv (bytes-append T (rules-of cs []) (c ∷ []))
