@@ -39,7 +39,7 @@ fn is_name(s: &[u8], at: usize, len: usize) -> bool
     true
 }
 
-fn wide(x: u16) -> usize
+pub fn wide(x: u16) -> usize
     ensures { λ r. ⌜ (r ≡ x) × (r < 65536) ⌝ }
 {
     x as usize

@@ -2,6 +2,14 @@
 use crate::laying::put;
 use crate::laying::put_symbol;
 use crate::laying::put_variable;
+use format::Record;
+use namelist::find;
+use namelist::is_list;
+use namelist::wide;
+use printouts::Printout;
+use records::check_book;
+use records::record::next_at;
+use records::record::record_at;
 ghost use mathlib.Core.Path.{_≡_};
 ghost use mathlib.Core.List.{List, [], _∷_};
 ghost use Prim.Native.Nat.{ℕ, _+_, _<_, _≤_};
@@ -12,9 +20,14 @@ ghost use Rattle.format.specs.declared.Record.the-variants.{Variable, Constant,
 ghost use Rattle.printing.specs.Named.{Naming};
 ghost use Rattle.namelist.specs.List.{Entry, naming};
 ghost use Rattle.namelist.specs.ListLaws.{Stands};
-ghost use Rattle.printouts.specs.Walk.{begun, deeper, sign, ending};
-ghost use Rattle.printouts.specs.Laying.{Lays};
-ghost use Rattle.printer.specs.Parts.{comma, full, Room, Closed, Ended, Wrote};
+ghost use Rattle.printouts.specs.Walk.{begun, deeper, sign, ending, walked};
+ghost use Rattle.printouts.specs.Laying.{Lays, reach};
+ghost use Rattle.printouts.specs.Outcome.{refusal, printAnswer, printArea};
+ghost use Rattle.grammar.specs.Names as Names;
+ghost use Rattle.grammar.specs.Names.{Sort};
+ghost use Rattle.format.specs.Format.{encode};
+ghost use Rattle.namelist.specs.NamingLaws.{some};
+ghost use Rattle.printer.specs.Parts.{comma, full, Room, Closed, Ended, Wrote, items, record-named, records-named, Checked, Prints-image};
 
 mod laying;
 
@@ -214,4 +227,158 @@ fn write_ending(area: &mut [u8], pen: Pen, turn: usize) -> Pen
         top: 4096,
         turn,
     }
+}
+
+fn put_record(area: &mut [u8], names: &[u8], stack: &mut [u8], pen: Pen, item: Record) -> Pen
+    requires { ⌜ ((l : List Entry) × Stands (now names) 0 l) ⌝ }
+    requires { ⌜ Room (now stack) (pen .top) ⌝ }
+    ensures { λ r. ⌜ ((l : List Entry) → Stands (now (names .entry)) 0 l → Wrote (naming l) (now (area .entry)) (now (area .exit)) (now (stack .entry)) (now (stack .exit)) pen r item) ⌝ }
+{
+    match item {
+        Record::Variable(v) => write_variable(area, stack, pen, wide(v)),
+        Record::Constant(c) => write_constant(area, names, stack, pen, wide(c)),
+        Record::Compound(f, n) => write_compound(area, names, stack, pen, wide(f), n),
+        Record::Formula(p, n) => write_formula(area, names, stack, pen, wide(p), n),
+        Record::Clause(_) => write_ending(area, pen, 1),
+        Record::Goal(_) => Pen {
+            at: pen.at,
+            top: 4096,
+            turn: 4,
+        },
+        Record::End => write_ending(area, pen, 0),
+    }
+}
+
+// The text of an image, as far as the area has room; its length, as far as 65,537.
+fn walk(area: &mut [u8], names: &[u8], image: &[u8], stack: &mut [u8]) -> usize
+    requires { ⌜ ((l : List Entry) × Stands (now names) 0 l) ⌝ }
+    requires { ⌜ (now image ≡ encode (items (now image))) × (length (now stack) ≡ 4096) ⌝ }
+    ensures { λ r. ⌜ ((l : List Entry) → Stands (now (names .entry)) 0 l → Lays (now (area .entry)) (now (area .exit)) 0 r (walked (naming l) 0 [] (items (now (image .entry))))) ⌝ }
+{
+    let mut pen = Pen {
+        at: 0,
+        top: 4096,
+        turn: 0,
+    };
+    let mut i = 0;
+    while i < image.len() {
+        let item = record_at(image, i, image[i]);
+        pen = put_record(area, names, stack, pen, item);
+        i = next_at(image, i);
+    }
+    pen.at
+}
+
+fn has_name(names: &[u8], kind: usize, number: usize) -> bool
+    requires { ⌜ ((l : List Entry) × Stands (now names) 0 l) ⌝ }
+    ensures { λ r. ⌜ ((l : List Entry) (k : Sort) → Stands (now (names .entry)) 0 l → kind ≡ Names.kind k → r ≡ some (naming l k number)) ⌝ }
+{
+    let name = find(names, kind, number);
+    0 < name.len
+}
+
+fn is_named(names: &[u8], item: Record) -> bool
+    requires { ⌜ ((l : List Entry) × Stands (now names) 0 l) ⌝ }
+    ensures { λ r. ⌜ ((l : List Entry) → Stands (now (names .entry)) 0 l → r ≡ record-named l item) ⌝ }
+{
+    match item {
+        Record::Variable(_) => true,
+        Record::Constant(c) => has_name(names, 2, wide(c)),
+        Record::Compound(f, _) => has_name(names, 3, wide(f)),
+        Record::Formula(p, _) => has_name(names, 4, wide(p)),
+        Record::Clause(_) => true,
+        Record::Goal(_) => true,
+        Record::End => true,
+    }
+}
+
+// Whether each symbol of an image has a name.
+fn all_named(names: &[u8], image: &[u8]) -> bool
+    requires { ⌜ ((l : List Entry) × Stands (now names) 0 l) ⌝ }
+    requires { ⌜ now image ≡ encode (items (now image)) ⌝ }
+    ensures { λ r. ⌜ ((l : List Entry) → Stands (now (names .entry)) 0 l → r ≡ records-named l (items (now (image .entry)))) ⌝ }
+{
+    let mut i = 0;
+    while i < image.len() {
+        let item = record_at(image, i, image[i]);
+        if !is_named(names, item) {
+            return false;
+        }
+        i = next_at(image, i);
+    }
+    true
+}
+
+// Whether the names are a list; then they stand in it from its start.
+fn check_names(names: &[u8]) -> bool
+    ensures { λ r. ⌜ Checked (now (names .entry)) r ⌝ }
+{
+    is_list(names)
+}
+
+fn measure(names: &[u8], image: &[u8]) -> usize
+    requires { ⌜ ((l : List Entry) × Stands (now names) 0 l) ⌝ }
+    requires { ⌜ now image ≡ encode (items (now image)) ⌝ }
+    ensures { λ r. ⌜ ((l : List Entry) → Stands (now (names .entry)) 0 l → r ≡ reach 0 (walked (naming l) 0 [] (items (now (image .entry))))) ⌝ }
+{
+    let mut none = [0u8; 1];
+    let mut stack = [0u8; 4096];
+    walk(&mut none, names, image, &mut stack)
+}
+
+fn write(area: &mut [u8], names: &[u8], image: &[u8]) -> usize
+    requires { ⌜ ((l : List Entry) × Stands (now names) 0 l) ⌝ }
+    requires { ⌜ now image ≡ encode (items (now image)) ⌝ }
+    ensures { λ r. ⌜ ((l : List Entry) → Stands (now (names .entry)) 0 l → Lays (now (area .entry)) (now (area .exit)) 0 r (walked (naming l) 0 [] (items (now (image .entry))))) ⌝ }
+{
+    let mut stack = [0u8; 4096];
+    walk(area, names, image, &mut stack)
+}
+
+fn refusal(code: u8, place: usize) -> Printout
+    ensures { λ r. ⌜ r ≡ refusal code place ⌝ }
+{
+    Printout {
+        code,
+        place,
+        bytes: 0,
+    }
+}
+
+// What is answered for an image that its check found good.
+fn print_image(image: &[u8], names: &[u8], area: &mut [u8]) -> Printout
+    requires { ⌜ now image ≡ encode (items (now image)) ⌝ }
+    ensures { λ r. ⌜ Prints-image (now (image .entry)) (now (names .entry)) (now (area .entry)) (now (area .exit)) r ⌝ }
+{
+    if !check_names(names) {
+        return refusal(45, 0);
+    }
+    if !all_named(names, image) {
+        return refusal(44, 0);
+    }
+    let n = measure(names, image);
+    if 65536 < n {
+        return refusal(46, 0);
+    }
+    if area.len() < n {
+        return refusal(46, 0);
+    }
+    write(area, names, image);
+    Printout {
+        code: 0,
+        place: 0,
+        bytes: n,
+    }
+}
+
+// "Write a good book with its name list as text" (document 02, C-14).
+pub fn print_book(book: &[u8], names: &[u8], area: &mut [u8]) -> Printout
+    ensures answer { λ r. ⌜ r ≡ printAnswer (now (book .entry)) (now (names .entry)) (now (area .entry)) ⌝ }
+    ensures text { λ _. ⌜ now (area .exit) ≡ printArea (now (book .entry)) (now (names .entry)) (now (area .entry)) ⌝ }
+{
+    let found = check_book(book);
+    if found.code == 0 {
+        return print_image(book, names, area);
+    }
+    refusal(found.code, found.place)
 }

@@ -63,11 +63,11 @@ module _ (found : Check) (e : Expr) (text : Naming → List ℕ) (names area : L
       cases (ltb 65536 (length t)) (λ a. let z : true ≡ false = rw a at w in let y : _≡_ {A = ℕ} 0 1 = cc in absurd (omega arith))
       (λ a. (ltb-false 65536 (length t) a, ltb-false (length area) (length t) (rw a at w)))
 
-  long-is : (65536 < length t) ⊎ (length area < length t) → too-long found e text names area ≡ true
+  pub long-is : (65536 < length t) ⊎ (length area < length t) → too-long found e text names area ≡ true
   long-is (inl l) = rw (lt-ltb 65536 (length t) l) refl
   long-is (inr l) = cases (ltb 65536 (length t)) (λ a. rw a refl) (λ a. rw (a, lt-ltb (length area) (length t) l) refl)
 
-  short-is : length t ≤ 65536 → length t ≤ length area → too-long found e text names area ≡ false
+  pub short-is : length t ≤ 65536 → length t ≤ length area → too-long found e text names area ≡ false
   short-is p q = rw (le-ltb 65536 (length t) p, le-ltb (length area) (length t) q) refl
 
   given : {p : Printout} {s : List ℕ} → Is p s → Prints found e text names area p s → Prints found e text names area (outcome found e text names area) (outcome-area found e text names area)
