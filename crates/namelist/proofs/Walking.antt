@@ -278,9 +278,13 @@ module _ (s : List ℕ) where
         }
 
 pub ruleset sweeping = (sweeping-start, sweeping-whole, sweeping-past, sweeping-begins, sweeping-step)
+
 pub ruleset sweeping-said = (sweeping-fails, sweeping-end)
+
 pub ruleset matching = (entry-other, entry-same)
+
 pub ruleset finding = (finding-start, finding-three, finding-whole, finding-past, finding-step)
+
 pub ruleset finding-said = (finding-hit, finding-end)
 
 -- Both checks

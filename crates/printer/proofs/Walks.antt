@@ -255,4 +255,5 @@ module _ (names image : List ℕ) where
       inv (ap (records-named (g .entries)) (over image i (g .left) (g .standing) q)) ∙ g .rest ∙ ap (λ (m : List Entry). records-named m (items image)) (stands-one names 0 (g .entries) l (g .begins) h)
 
 pub ruleset sweeping = (sweeping-start, sweeping-body, sweeping-step)
+
 pub ruleset sweeping-said = (sweeping-fails, sweeping-end)

@@ -202,9 +202,10 @@ module _ (text₀ list₀ : List ℕ) (b : Next.Book) (r : Reading text₀ b lis
 
     -- "printing what was read and reading it again changes nothing"
     pub again : {c : Next.Book} {list : List ℕ} → Reading (text-of (encodeBook b) list₀ area book-bytes names-bytes zero-code) c list → (c ≡ b) × (list ≡ list₀)
-    again {c} {list} q =
-        (read-same (encodeBook b) list₀ area book-bytes names-bytes zero-code cs (same-book ∙ r .book-is) q ∙ same-book,
-        reading-one q (is-read (encodeBook b) list₀ area book-bytes names-bytes zero-code) .1
-        ∙ ap (λ (d : Next.Book). name-list (named-rules (naming (o .entries)) d)) same-book
-        ∙ lists-same (names (named-rules (naming (o .entries)) b)) (names cs) names-again
-        ∙ inv (r .list-is))
+    again {c} {list} q = (
+      read-same (encodeBook b) list₀ area book-bytes names-bytes zero-code cs (same-book ∙ r .book-is) q ∙ same-book,
+      reading-one q (is-read (encodeBook b) list₀ area book-bytes names-bytes zero-code) .1
+          ∙ ap (λ (d : Next.Book). name-list (named-rules (naming (o .entries)) d)) same-book
+          ∙ lists-same (names (named-rules (naming (o .entries)) b)) (names cs) names-again
+          ∙ inv (r .list-is),
+    )

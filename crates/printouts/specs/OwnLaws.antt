@@ -58,8 +58,8 @@ sort-each R k n [] h = tt
 sort-each R k n (w ∷ l) h = (h n w, sort-each R k (suc n) l h)
 
 module _ (R : Entry → Entry → Type 0) (table : Sort → List (List ℕ))
-  (across : (j k : Sort) → kind j < kind k → (m n : ℕ) (v w : List ℕ) → R (entry j m v) (entry k n w))
-  (inside : (k : Sort) → Along R (of-sort k 0 (table k))) where
+    (across : (j k : Sort) → kind j < kind k → (m n : ℕ) (v w : List ℕ) → R (entry j m v) (entry k n w))
+    (inside : (k : Sort) → Along R (of-sort k 0 (table k))) where
   own-along : Along R (own table)
   own-along =
       along-append R (of-sort Constant 0 (table Constant)) (of-sort Compound 0 (table Compound) ++ of-sort Predicate 0 (table Predicate)) (inside Constant)

@@ -7,8 +7,8 @@ use lib.ListN.{length}
 use Rattle.terms.specs.Node.{Expr, var, sym}
 use Rattle.search.specs.Next as Next
 use Rattle.words.specs.Flat.{flat}
-use Rattle.records.specs.Format.{encodeRecord, encode, nodeRecords, bookRecords, encodeBook}
-use Rattle.records.specs.declared.record.Record.{Record}
+use Rattle.format.specs.Format.{encodeRecord, encode, nodeRecords, bookRecords, encodeBook}
+use Rattle.format.specs.declared.Record.{Record}
 use Rattle.grammar.specs.Syntax.{Formula, Rule}
 use Rattle.grammar.specs.Names.{Sort, Spot, variable-spot, symbol-spot, formula-spots, rule-spots, text-spots, place, names-after, variable-number, with-variable, variables-after, symbol-of, numbered, numbered-all, clause, names, book}
 use Rattle.grammar.specs.NameLaws.{numbered-length, flat-numbered}

@@ -7,7 +7,7 @@ use lib.ListN.{length, take, length-append}
 use lib.Dec.{ltb}
 use lib.Seq.{length-take-le}
 use borrow.Author.Tests.{lt-ltb, le-ltb}
-use Rattle.records.specs.Format.{encodeBook}
+use Rattle.format.specs.Format.{encodeBook}
 use Rattle.grammar.specs.Syntax.{Rule}
 use Rattle.grammar.specs.Names.{Sort, book, names}
 use Rattle.reading.specs.Part.{formulas, between, state, rules-of}
