@@ -12,3 +12,4 @@ pub mod OrderLaws
 pub mod SizeLaws
 pub mod ImageLaws
 pub mod Theorem
+pub mod Examples
