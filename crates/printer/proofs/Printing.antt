@@ -3,7 +3,7 @@ use Prim.Native.Nat.{ℕ, zero, suc, _+_, _-_, _≤_, _<_}
 use mathlib.Core.Path.{_≡_, refl, sym as inv, ap, ap₂, _∙_, subst}
 use mathlib.Core.Logic.{inl, inr}
 use mathlib.Core.Bool.{Bool, true, false, not}
-use mathlib.Core.List.{List, [], _∷_, _++_}
+use mathlib.Core.List.{List, [], _∷_, _++_, append-nil}
 use native.Mathlib.Omega.{arith}
 use borrow.Author.Tests.{not-true, not-false}
 use lib.ListN.{length, drop}
@@ -13,11 +13,11 @@ use Rattle.search.specs.Next as Next
 use Rattle.words.specs.Flat.{flat}
 use Rattle.format.specs.declared.Check.{Check}
 use Rattle.format.specs.declared.Record.{Record}
-use Rattle.format.specs.Format.{encode, nodeRecords, bookRecords, encodeBook, GoodBook, Bytes}
-use Rattle.format.specs.Reading.{bookVerdict}
-use Rattle.format.specs.Decode.{bookOf}
-use Rattle.format.proofs.Decoding.{records-back, bookOf-good}
-use Rattle.printing.specs.Named.{Naming, printed}
+use Rattle.format.specs.Format.{encode, nodeRecords, bookRecords, goalRecords, encodeBook, encodeGoal, GoodBook, GoodGoal, Bytes}
+use Rattle.format.specs.Reading.{bookVerdict, queryVerdict}
+use Rattle.format.specs.Decode.{bookOf, goalOf}
+use Rattle.format.proofs.Decoding.{records-back, bookOf-good, goalOf-good}
+use Rattle.printing.specs.Named.{Naming, printed, printed-goal}
 use Rattle.printing.specs.Renumbered.{book-nodes}
 use Rattle.namelist.specs.List.{Entry, IsList, naming}
 use Rattle.namelist.specs.ListLaws.{Stands}
@@ -27,9 +27,9 @@ use Rattle.namelist.specs.NamingLaws.{some, all-named}
 use Rattle.grammar.specs.Names.{Constant, Compound, Predicate}
 use Rattle.printouts.specs.declared.Printout.{Printout}
 use Rattle.printouts.specs.Walk.{walked}
-use Rattle.printouts.specs.WalkLaws.{walked-is}
+use Rattle.printouts.specs.WalkLaws.{walked-is, goal-walked-is}
 use Rattle.printouts.specs.Laying.{Lays, reach, lay-front, measured, over-long}
-use Rattle.printouts.specs.Outcome.{refusal, done, text-by, printAnswer, printArea}
+use Rattle.printouts.specs.Outcome.{refusal, done, text-by, printAnswer, printArea, goalAnswer, goalArea}
 use Rattle.printouts.specs.OutcomeLaws.{Is, is-not-good, is-no-list, is-no-name, is-no-room, is-printed, long-is, short-is}
 use Rattle.printer.specs.Parts.{items, records-named, Checked, Suited, Prints-image}
 
@@ -139,4 +139,43 @@ pub book-refused : (book names area : List ℕ) (found : Check) (r : Printout) �
     (r ≡ printAnswer book names area) × (area ≡ printArea book names area)
 book-refused book names area found r e n f =
     let i = is-not-good (bookVerdict book) (book-nodes (bookOf book)) (λ name. printed name (bookOf book)) names area (λ z. n (ap (λ (v : Check). v .code) e ∙ z)) in
+    (f ∙ ap (λ (v : Check). refusal (v .code) (v .place)) e ∙ i .answer, i .area-is)
+
+-- A goal
+
+module _ (book goal : List ℕ) (bytes : Bytes goal) (found : Check) (is : found ≡ queryVerdict book goal) (z : found .code ≡ 0) where
+  query-code : queryVerdict book goal .code ≡ 0
+  query-code = ap (λ (v : Check). v .code) (inv is) ∙ z
+
+  goal-good : GoodGoal (goalOf goal) × (encodeGoal (goalOf goal) ≡ goal)
+  goal-good = let q = goalOf-good book goal bytes query-code in (q .0, q .1)
+
+  goal-items : items goal ≡ goalRecords (goalOf goal)
+  goal-items = records-back goal (goalRecords (goalOf goal)) (length goal) 0 (omega arith) (inv (goal-good .1))
+
+  pub goal-image : goal ≡ encode (items goal)
+  goal-image = inv (goal-good .1) ∙ ap encode (inv goal-items)
+
+  goal-named : (l : List Entry) → records-named l (goalRecords (goalOf goal)) ≡ all-named l (flat (goalOf goal))
+  goal-named l =
+      ap (records-named l) (inv (append-nil (nodeRecords (flat (goalOf goal)))))
+      ∙ nodes-named l (flat (goalOf goal)) [] [] refl ∙ ap (all-named l) (append-nil (flat (goalOf goal)))
+
+  goal-suited : Suited goal (queryVerdict book goal) (flat (goalOf goal)) (λ name. printed-goal name (goalOf goal))
+  goal-suited =
+      record {
+        good = query-code;
+        named = λ l. ap (records-named l) goal-items ∙ goal-named l;
+        texts = λ name. ap (walked name 0 []) goal-items ∙ goal-walked-is name (goalOf goal) (goal-good .0);
+      }
+
+  pub goal-printed : (names area area′ : List ℕ) (r : Printout) → Prints-image goal names area area′ r → (r ≡ goalAnswer book goal names area) × (area′ ≡ goalArea book goal names area)
+  goal-printed names area area′ r p =
+      let i = p .is (queryVerdict book goal) (flat (goalOf goal)) (λ name. printed-goal name (goalOf goal)) goal-suited in
+      (i .answer, i .area-is)
+
+pub goal-refused : (book goal names area : List ℕ) (found : Check) (r : Printout) → found ≡ queryVerdict book goal → (found .code ≡ 0 → ⊥) → r ≡ refusal (found .code) (found .place) →
+    (r ≡ goalAnswer book goal names area) × (area ≡ goalArea book goal names area)
+goal-refused book goal names area found r e n f =
+    let i = is-not-good (queryVerdict book goal) (flat (goalOf goal)) (λ name. printed-goal name (goalOf goal)) names area (λ z. n (ap (λ (v : Check). v .code) e ∙ z)) in
     (f ∙ ap (λ (v : Check). refusal (v .code) (v .place)) e ∙ i .answer, i .area-is)

@@ -8,6 +8,7 @@ use namelist::is_list;
 use namelist::wide;
 use printouts::Printout;
 use records::check_book;
+use records::check_query;
 use records::record::next_at;
 use records::record::record_at;
 ghost use mathlib.Core.Path.{_≡_};
@@ -22,7 +23,7 @@ ghost use Rattle.namelist.specs.List.{Entry, naming};
 ghost use Rattle.namelist.specs.ListLaws.{Stands};
 ghost use Rattle.printouts.specs.Walk.{begun, deeper, sign, ending, walked};
 ghost use Rattle.printouts.specs.Laying.{Lays, reach};
-ghost use Rattle.printouts.specs.Outcome.{refusal, printAnswer, printArea};
+ghost use Rattle.printouts.specs.Outcome.{refusal, printAnswer, printArea, goalAnswer, goalArea};
 ghost use Rattle.grammar.specs.Names as Names;
 ghost use Rattle.grammar.specs.Names.{Sort};
 ghost use Rattle.format.specs.Format.{encode};
@@ -379,6 +380,18 @@ pub fn print_book(book: &[u8], names: &[u8], area: &mut [u8]) -> Printout
     let found = check_book(book);
     if found.code == 0 {
         return print_image(book, names, area);
+    }
+    refusal(found.code, found.place)
+}
+
+// The same for a goal, or an answer, that is good by its book.
+pub fn print_goal(book: &[u8], goal: &[u8], names: &[u8], area: &mut [u8]) -> Printout
+    ensures answer { λ r. ⌜ r ≡ goalAnswer (now (book .entry)) (now (goal .entry)) (now (names .entry)) (now (area .entry)) ⌝ }
+    ensures text { λ _. ⌜ now (area .exit) ≡ goalArea (now (book .entry)) (now (goal .entry)) (now (names .entry)) (now (area .entry)) ⌝ }
+{
+    let found = check_query(book, goal);
+    if found.code == 0 {
+        return print_image(goal, names, area);
     }
     refusal(found.code, found.place)
 }
