@@ -120,7 +120,7 @@ wrote-formula s a b c d stack stack′ pen out i name end top turn p n f g t z q
       room = r;
     })
 
-pub ruleset writing = (wrote-variable, wrote-constant, wrote-compound, wrote-formula-0, wrote-formula)
+-- the kinds of the three sorts
 
 pub kind-2 : (k : Sort) × (_≡_ {A = ℕ} 2 (kind k))
 kind-2 = (Names.Constant, refl)

@@ -1,3 +1,4 @@
+-- `printer::end_term` meets its contract. Assumes nothing.
 use mathlib.Core.Path.{refl}
 use borrow.Author.Needs.{needs}
 use Rattle.printer.proofs.end_term.Statement.{statement}

@@ -1,3 +1,4 @@
+-- `printer::laying::put` meets its contract. Assumes nothing.
 use borrow.Author.Needs.{needs}
 use Rattle.printer.proofs.laying.put.Statement.{statement}
 use Rattle.printer.proofs.laying.put.Tie as tie
