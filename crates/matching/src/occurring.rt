@@ -23,7 +23,7 @@ pub fn occurs(
     fuel: usize,
 ) -> Look
     requires { ⌜ Made (now heap) (now cells) × Whole (now heap) 1 p × (v < 65536) ⌝ }
-    requires { ⌜ (fuel ≤ 4096) × (514 ≤ length (now levels)) ⌝ }
+    requires { ⌜ (fuel ≤ 8448) × (514 ≤ length (now levels)) ⌝ }
     ensures { λ r. ⌜ Looked (now (heap .entry)) (now (cells .entry)) v p fuel r ⌝ }
 {
     let sought = 0x100_0000 + v as u32;

@@ -40,7 +40,7 @@ fn hang(
     r: usize,
 ) -> Step
     requires { ⌜ Made (now heap) (now cells) × ((θ : Subst) × Solved (now heap) (now cells) θ) × (length (now cells) ≤ 8256) ⌝ }
-    requires { ⌜ (t .fuel ≤ 4096) × (514 ≤ length (now levels)) × (t .count < length (now trail)) × (v < length (now cells)) × (r < length (now heap)) × Whole (now heap) 1 r ⌝ }
+    requires { ⌜ (t .fuel ≤ 8448) × (514 ≤ length (now levels)) × (t .count < length (now trail)) × (v < length (now cells)) × (r < length (now heap)) × Whole (now heap) 1 r ⌝ }
     ensures { λ z. ⌜ Hung (now (heap .entry)) (now (cells .entry)) (now (trail .entry)) t v r (now (cells .exit)) (now (trail .exit)) z ⌝ }
 {
     match occurs(heap, cells, levels, v, r, t.fuel) {
@@ -64,7 +64,7 @@ fn make(
     q: usize,
 ) -> Step
     requires { ⌜ Made (now heap) (now cells) × ((θ : Subst) × Solved (now heap) (now cells) θ) × (length (now cells) ≤ 8256) ⌝ }
-    requires { ⌜ (t .fuel ≤ 4096) × (514 ≤ length (now levels)) × (t .count < length (now trail)) × Whole (now heap) 1 p × Whole (now heap) 1 q ⌝ }
+    requires { ⌜ (t .fuel ≤ 8448) × (514 ≤ length (now levels)) × (t .count < length (now trail)) × Whole (now heap) 1 p × Whole (now heap) 1 q ⌝ }
     ensures { λ z. ⌜ Stepped (now (heap .entry)) (now (cells .entry)) (now (trail .entry)) t p q (now (cells .exit)) (now (trail .exit)) z ⌝ }
 {
     match meet(heap, cells, p, q) {
@@ -102,7 +102,7 @@ pub fn unify(
     q: usize,
 ) -> Tried
     requires { ⌜ Made (now heap) (now cells) × ((θ : Subst) × Solved (now heap) (now cells) θ) × (length (now cells) ≤ 8256) × Whole (now heap) 1 p × Whole (now heap) 1 q ⌝ }
-    requires { ⌜ (t .fuel ≤ 4096) × (514 ≤ length (now levels)) × (t .count + t .fuel ≤ length (now trail)) × (387 ≤ length (now stack)) ⌝ }
+    requires { ⌜ (t .fuel ≤ 8448) × (514 ≤ length (now levels)) × (t .count + t .fuel ≤ length (now trail)) × (387 ≤ length (now stack)) ⌝ }
     ensures { λ z. ⌜ Unified (now (heap .entry)) (now (cells .entry)) (now (trail .entry)) t p q (now (cells .exit)) (now (trail .exit)) z ⌝ }
 {
     let base = t.base;

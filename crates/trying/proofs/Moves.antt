@@ -70,7 +70,7 @@ module _ (words : List ℕ) (x : Shape) {f : Expr} {g a : Goal} (s : Shaped (tak
     trial-undoable {later} same = let u = found .2 .fitted .undoable in record {
       before = u .before;
       free = u .free;
-      trailed = subst (λ t. Trailed (u .before) cells (take 4096 t) 8192 count) (inv same) (u .trailed);
+      trailed = subst (λ t. Trailed (u .before) cells (take 8448 t) 8192 count) (inv same) (u .trailed);
       few = u .few;
     }
 

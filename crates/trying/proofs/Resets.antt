@@ -48,15 +48,15 @@ clear-end {before} {cells} x l low v = elim (decLt v 8192) [
 
 -- The trail is a part of the tables.
 module _ (tables : List ℕ) (l : length tables ≡ 30464) where
-  pub trail-long : length (take 4096 (drop 16512 tables)) ≡ 4096
-  trail-long = length-take-le 4096 (drop 16512 tables) (omega (arith, length-drop 16512 tables, l))
+  pub trail-long : length (take 8448 (drop 16512 tables)) ≡ 8448
+  trail-long = length-take-le 8448 (drop 16512 tables) (omega (arith, length-drop 16512 tables, l))
 
 -- A trial that starts with nothing bound, from how it ends.
 abbrev pub start : ℕ → Trial
 start k = record { base = 8192; count = 0; fuel = k }
 
 abbrev pub Starts : Trial → Type 0
-Starts t = (k : ℕ) × (k ≤ 4096) × (t ≡ start k)
+Starts t = (k : ℕ) × (k ≤ 8448) × (t ≡ start k)
 
 module _ (heap before tables : List ℕ) (free : Free before) (q : ℕ) (cells now tables′ : List ℕ) (count : ℕ) (is : trail tables′ ≡ now) (t : Trial) (b : Starts t) (k : Trail-kept before (trail tables) t cells now count) where
   kept : Trail-kept before (trail tables) (start (b .0)) cells now count
@@ -71,11 +71,11 @@ module _ (heap before tables : List ℕ) (free : Free before) (q : ℕ) (cells n
       record { made = more .made; undoable = undoable; unifier = θ; solved = s; general = g }
 
 -- how far it may go
-pub start-few : (t : Trial) → Starts t → (t .fuel ≤ 4096) × (t .count + t .fuel ≤ 4096)
+pub start-few : (t : Trial) → Starts t → (t .fuel ≤ 8448) × (t .count + t .fuel ≤ 8448)
 start-few t (k, l, e) = rw e (l, omega (arith, l))
 
 -- the trail after the part is back
-pub trail-back : (tables now : List ℕ) → length tables ≡ 30464 → length now ≡ length (take 4096 (drop 16512 tables)) → trail (putMid 16512 4096 tables now) ≡ now
+pub trail-back : (tables now : List ℕ) → length tables ≡ 30464 → length now ≡ length (take 8448 (drop 16512 tables)) → trail (putMid 16512 8448 tables now) ≡ now
 trail-back tables now l e =
-    ap (take 4096) (drop-at (take 16512 tables) (now ++ drop 4096 (drop 16512 tables)) 16512 (length-take-le 16512 tables (omega (arith, l))))
-    ∙ take-at now (drop 4096 (drop 16512 tables)) 4096 (e ∙ trail-long tables l)
+    ap (take 8448) (drop-at (take 16512 tables) (now ++ drop 8448 (drop 16512 tables)) 16512 (length-take-le 16512 tables (omega (arith, l))))
+    ∙ take-at now (drop 8448 (drop 16512 tables)) 8448 (e ∙ trail-long tables l)

@@ -19,14 +19,14 @@ use Rattle.trying.specs.declared.Found.the-variants as Found
 
 -- where the trail stands in the slice of tables: numbering leaves it alone
 abbrev pub trail : List ℕ → List ℕ
-trail tables = take 4096 (drop 16512 tables)
+trail tables = take 8448 (drop 16512 tables)
 
 -- all that is bound of the goal's variables is on the trail
 pub record Undoable (cells tables : List ℕ) (count : ℕ) : Type 0 where
   pub before : List ℕ
   pub free : Free before
   pub trailed : Trailed before cells (trail tables) 8192 count
-  pub few : count ≤ 4096
+  pub few : count ≤ 8448
 
 -- what is bound is a most general unifier of the rows at 0 and q
 pub record Fitted (heap : List ℕ) (q : ℕ) (cells tables : List ℕ) (count : ℕ) : Type 0 where

@@ -35,21 +35,22 @@ pub enum Attempt {
 // The variables of a clause start here, behind those of goal and answer.
 pub const BASE: usize = 8192;
 
-// A trial's start: it may visit as many nodes as the row has, and 256, at most 4,096. What takes longer, such as doubled terms, is the other step's.
+// A trial's start: it may visit twice as many nodes as the row has, and 32, at most 8,448. What takes longer, such as doubled terms, is the other
+// step's.
 fn begun(row: usize) -> Trial
-    ensures { λ t. ⌜ ((k : ℕ) × (k ≤ 4096) × (t ≡ record { base = 8192; count = 0; fuel = k })) ⌝ }
+    ensures { λ t. ⌜ ((k : ℕ) × (k ≤ 8448) × (t ≡ record { base = 8192; count = 0; fuel = k })) ⌝ }
 {
-    if row < 3840 {
+    if row < 4208 {
         return Trial {
             base: BASE,
             count: 0,
-            fuel: row + 256,
+            fuel: row + row + 32,
         };
     }
     Trial {
         base: BASE,
         count: 0,
-        fuel: 4096,
+        fuel: 8448,
     }
 }
 
@@ -64,7 +65,7 @@ fn try_rows(heap: &[u32], cells: &mut [u16], rows: &mut [u16], q: usize) -> Atte
     match unify(
         heap,
         cells,
-        &mut rows[16512..20608],
+        &mut rows[16512..24960],
         &mut levels,
         &mut stack,
         t,

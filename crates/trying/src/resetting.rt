@@ -26,6 +26,6 @@ pub fn release(cells: &mut [u16], rows: &[u16], count: usize)
     requires { ⌜ (length (now cells) ≡ 8256) × (length (now rows) ≡ CELLS) × Undoable (now cells) (now rows) count ⌝ }
     ensures { λ _. ⌜ Free (now (cells .exit)) ⌝ }
 {
-    undo(cells, &rows[16512..20608], count);
+    undo(cells, &rows[16512..24960], count);
     clear(cells);
 }
