@@ -1,13 +1,13 @@
 // The flat profile for C firmware. A step and a run have the numbers that the plain ones have.
 use crate::flat_run;
 use crate::flat_step;
-use engine::applied_number;
-use engine::number;
-use engine::pack;
 use flatness::FlatBook;
 use flatness::check_flat_book;
 use flatness::check_flat_query;
 use format::Check;
+use numbers::applied_number;
+use numbers::number;
+use numbers::pack;
 ghost use mathlib.Core.Path.{_≡_};
 ghost use Rattle.outcomes.specs.Firmware.{number};
 ghost use Rattle.outcomes.specs.CallNumbers.{applyNumber};

@@ -1,10 +1,10 @@
 use borrow.Author.Tests.{lt-ltb, le-ltb}
 use borrow.Author.Needs.{needs}
-use Rattle.engine.proofs.number.Statement.{statement}
-use Rattle.engine.proofs.number.Tie as tie
-use Rattle.engine.proofs.number.Reads as reads
-use Rattle.engine.proofs.number.Lts as lts
-use Rattle.engine.proofs.pack.Reads as pack-reads
+use Rattle.numbers.proofs.number.Statement.{statement}
+use Rattle.numbers.proofs.number.Tie as tie
+use Rattle.numbers.proofs.number.Reads as reads
+use Rattle.numbers.proofs.number.Lts as lts
+use Rattle.numbers.proofs.pack.Reads as pack-reads
 
 pack-requires : tie.Need-pack-requires
 pack-requires c κs = search needs
