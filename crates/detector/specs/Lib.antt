@@ -1,0 +1,2 @@
+-- What the detector does.
+pub mod Detecting
