@@ -1,2 +1,3 @@
--- Proofs about the items.
+-- Proofs about the items and the sum.
 pub mod Items
+pub mod Sums

@@ -1,2 +1,3 @@
--- What an item of the stream is.
+-- What an item of the stream is, and the sum over an area.
 pub mod Item
+pub mod Sum

@@ -1,49 +1,20 @@
 // The entries, each with its line. What each leaves in a lent area is what the entry's contract says.
+use crate::line::last;
+use crate::line::number;
+use crate::line::sum;
 use format::Check;
-use libc::STDOUT_FILENO;
 use outcomes::Answer;
 use outcomes::Stepped;
 ghost use mathlib.Core.Path.{_≡_};
 ghost use mathlib.Core.Bool.{true};
-ghost use Prim.Native.Nat.{_<_};
 ghost use Rattle.outcomes.specs.Outcome.{stepArea, applyArea, runArea, runAnswerArea};
-
-pub fn number(n: u64) {
-    io::print_decimal(STDOUT_FILENO, n);
-    io::write_all(STDOUT_FILENO, b" ");
-}
-
-pub fn last(n: u64) {
-    io::print_decimal(STDOUT_FILENO, n);
-    io::write_all(STDOUT_FILENO, b"\n");
-}
-
-fn wide(x: u8) -> u64
-    ensures { λ r. ⌜ r < 256 ⌝ }
-{
-    x as u64
-}
-
-fn added(sum: u64, byte: u8) -> u64 {
-    sum % 0x8000_0000 * 0x100_0193 + wide(byte)
-}
-
-// A sum that any one byte changes, and to which each byte adds by its place.
-pub fn sum(bytes: &[u8]) -> u64 {
-    let mut sum: u64 = 1;
-    for i in 0..bytes.len() {
-        sum = added(sum, bytes[i]);
-    }
-    sum % 0x8000_0000
-}
 
 pub fn check(a: Check) -> bool
     ensures { λ r. ⌜ r ≡ true ⌝ }
 {
     number(a.code as u64);
     number(a.place as u64);
-    last(a.count as u64);
-    true
+    last(a.count as u64)
 }
 
 pub fn check_book(book: &[u8]) -> bool
@@ -69,8 +40,7 @@ pub fn stepped(a: Stepped, area: &[u8]) -> bool
     number(a.clause as u64);
     number(a.furthest as u64);
     number(a.argument as u64);
-    last(sum(area));
-    true
+    last(sum(area))
 }
 
 pub fn step(book: &[u8], query: &[u8], area: &mut [u8]) -> bool
@@ -98,8 +68,7 @@ pub fn pick(book: &[u8], query: &[u8]) -> bool
     number(a.steps as u64);
     number(a.clause as u64);
     number(a.furthest as u64);
-    last(a.argument as u64);
-    true
+    last(a.argument as u64)
 }
 
 pub fn answered(a: Answer, area: &[u8], answer: &[u8]) -> bool
@@ -114,8 +83,7 @@ pub fn answered(a: Answer, area: &[u8], answer: &[u8]) -> bool
     number(a.furthest as u64);
     number(a.argument as u64);
     number(sum(area));
-    last(sum(answer));
-    true
+    last(sum(answer))
 }
 
 pub fn run(book: &[u8], query: &[u8], budget: u32, area: &mut [u8], answer: &mut [u8]) -> bool
@@ -134,15 +102,13 @@ pub fn run_for_c(book: &[u8], query: &[u8], budget: u32, area: &mut [u8], answer
 {
     number(engine::pitxargole_run(budget, book, query, area, answer));
     number(sum(area));
-    last(sum(answer));
-    true
+    last(sum(answer))
 }
 
 pub fn pick_for_c(book: &[u8], query: &[u8]) -> bool
     ensures { λ r. ⌜ r ≡ true ⌝ }
 {
-    last(engine::pitxargole_pick(book, query));
-    true
+    last(engine::pitxargole_pick(book, query))
 }
 
 pub fn apply_for_c(book: &[u8], query: &[u8], clause: u32, area: &mut [u8]) -> bool
@@ -150,6 +116,5 @@ pub fn apply_for_c(book: &[u8], query: &[u8], clause: u32, area: &mut [u8]) -> b
     ensures area { λ _. ⌜ now (area .exit) ≡ applyArea (now (book .entry)) (now (query .entry)) clause (now (area .entry)) ⌝ }
 {
     number(engine::pitxargole_apply(clause, book, query, area));
-    last(sum(area));
-    true
+    last(sum(area))
 }

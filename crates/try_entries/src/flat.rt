@@ -1,10 +1,10 @@
 // The entries of the flat profile, each with its line. What each leaves in a lent area is what the entry's contract says.
 use crate::entries::answered;
 use crate::entries::check;
-use crate::entries::last;
-use crate::entries::number;
 use crate::entries::stepped;
-use crate::entries::sum;
+use crate::line::last;
+use crate::line::number;
+use crate::line::sum;
 ghost use mathlib.Core.Path.{_≡_};
 ghost use mathlib.Core.Bool.{true};
 ghost use Rattle.profile.specs.Outcome.{flatStepArea, flatRunArea, flatRunAnswerArea};
@@ -17,8 +17,7 @@ pub fn check_book(book: &[u8]) -> bool
     number(a.place as u64);
     number(a.clauses as u64);
     number(a.predicates as u64);
-    last(a.constants as u64);
-    true
+    last(a.constants as u64)
 }
 
 pub fn check_query(book: &[u8], query: &[u8]) -> bool
@@ -47,15 +46,13 @@ pub fn run(book: &[u8], query: &[u8], budget: u32, area: &mut [u8], answer: &mut
 pub fn book_for_c(book: &[u8]) -> bool
     ensures { λ r. ⌜ r ≡ true ⌝ }
 {
-    last(profile::firmware::pitxargole_flat_book(book));
-    true
+    last(profile::firmware::pitxargole_flat_book(book))
 }
 
 pub fn query_for_c(book: &[u8], query: &[u8]) -> bool
     ensures { λ r. ⌜ r ≡ true ⌝ }
 {
-    last(profile::firmware::pitxargole_flat_query(book, query));
-    true
+    last(profile::firmware::pitxargole_flat_query(book, query))
 }
 
 pub fn step_for_c(book: &[u8], query: &[u8], area: &mut [u8]) -> bool
@@ -63,8 +60,7 @@ pub fn step_for_c(book: &[u8], query: &[u8], area: &mut [u8]) -> bool
     ensures area { λ _. ⌜ now (area .exit) ≡ flatStepArea (now (book .entry)) (now (query .entry)) (now (area .entry)) ⌝ }
 {
     number(profile::firmware::pitxargole_flat_step(book, query, area));
-    last(sum(area));
-    true
+    last(sum(area))
 }
 
 pub fn run_for_c(book: &[u8], query: &[u8], budget: u32, area: &mut [u8], answer: &mut [u8]) -> bool
@@ -74,6 +70,5 @@ pub fn run_for_c(book: &[u8], query: &[u8], budget: u32, area: &mut [u8], answer
 {
     number(profile::firmware::pitxargole_flat_run(budget, book, query, area, answer));
     number(sum(area));
-    last(sum(answer));
-    true
+    last(sum(answer))
 }

@@ -7,6 +7,7 @@
 mod entries;
 mod flat;
 mod lent;
+mod line;
 mod number;
 
 use libc::STDIN_FILENO;
