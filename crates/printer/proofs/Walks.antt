@@ -23,9 +23,10 @@ use Rattle.namelist.specs.NamingLaws.{some}
 use Rattle.namelist.proofs.Walking.{stands-one}
 use Rattle.printouts.specs.Walk.{ending, walked, piece, turn-after, owed-after}
 use Rattle.printouts.specs.Laying.{Lays, lays-none, lays-then}
-use Rattle.printer.specs.declared.Pen.{Pen}
-use Rattle.printer.specs.Parts.{Room, Wrote, items, record-named, records-named}
-use Rattle.printer.proofs.Layings.{lays-length}
+use Rattle.pen.specs.declared.Pen.{Pen}
+use Rattle.pen.specs.Parts.{Room}
+use Rattle.printer.specs.Parts.{Wrote, items, record-named, records-named}
+use Rattle.pen.proofs.Layings.{lays-length}
 
 -- One record
 

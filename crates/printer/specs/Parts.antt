@@ -1,8 +1,8 @@
 -- What the printer's parts do.
-use Prim.Native.Nat.{ℕ, zero, suc, _+_, _≤_}
-use mathlib.Core.Path.{_≡_, refl, ap}
+use Prim.Native.Nat.{ℕ}
+use mathlib.Core.Path.{_≡_}
 use mathlib.Core.Bool.{Bool, true, false}
-use mathlib.Core.List.{List, [], _∷_, _++_}
+use mathlib.Core.List.{List, [], _∷_}
 use lib.ListN.{length, drop}
 use Rattle.terms.specs.When.{_⇒_∣_}
 use Rattle.format.specs.Decode.{recordsFrom}
@@ -12,7 +12,7 @@ use Rattle.namelist.specs.List.{Entry, naming}
 use Rattle.namelist.specs.NamingLaws.{some}
 use Rattle.format.specs.declared.Record.{Record}
 use Rattle.printing.specs.Named.{Naming}
-use Rattle.printouts.specs.Walk.{begun, closings, left, owed-after, turn-after, piece, walked}
+use Rattle.printouts.specs.Walk.{owed-after, turn-after, piece, walked}
 use Rattle.printouts.specs.Laying.{Lays}
 use Rattle.printouts.specs.declared.Printout.{Printout}
 use Rattle.printouts.specs.OutcomeLaws.{Is}
@@ -21,46 +21,8 @@ use Rattle.format.specs.declared.Check.{Check}
 use Rattle.namelist.specs.ListLaws.{Stands}
 use Rattle.namelist.specs.Bytes.{is-list, entries-of}
 use Rattle.namelist.specs.NamingLaws.{all-named}
-use Rattle.printer.specs.declared.Pen.{Pen}
-
--- the brackets behind a term, and the comma
-
-abbrev pub brackets : List ℕ → List ℕ
-brackets [] = []
-brackets (zero ∷ o) = 41 ∷ brackets o
-brackets (suc n ∷ o) = []
-
-abbrev pub comma : List ℕ → List ℕ
-comma [] = []
-comma (n ∷ o) = 44 ∷ []
-
-pub closings-are : (o : List ℕ) → closings o ≡ brackets o ++ comma (left o)
-closings-are [] = refl
-closings-are (zero ∷ o) = ap (λ (l : List ℕ). 41 ∷ l) (closings-are o)
-closings-are (suc n ∷ o) = refl
-
--- the innermost symbol that is open has all its arguments
-abbrev pub full : List ℕ → Bool
-full [] = false
-full (zero ∷ o) = true
-full (suc n ∷ o) = false
-
--- a stack with room for 4,096, the innermost symbol's arguments at `top`
-pub record Room (stack : List ℕ) (top : ℕ) : Type 0 where
-  pub size : length stack ≡ 4096
-  pub inside : top ≤ 4096
-
--- what is owed is the stack from there on
-pub record Closed (area area′ stack : List ℕ) (at top : ℕ) (pen : Pen) : Type 0 where
-  pub text : Lays area area′ at (pen .at) (brackets (drop top stack))
-  pub owed : drop (pen .top) stack ≡ left (drop top stack)
-  pub inside : pen .top ≤ 4096
-
-pub record Ended (area area′ stack stack′ : List ℕ) (pen pen′ : Pen) : Type 0 where
-  pub text : Lays area area′ (pen .at) (pen′ .at) (closings (begun (drop (pen .top) stack)))
-  pub owed : drop (pen′ .top) stack′ ≡ left (begun (drop (pen .top) stack))
-  pub turn : pen′ .turn ≡ pen .turn
-  pub room : Room stack′ (pen′ .top)
+use Rattle.pen.specs.declared.Pen.{Pen}
+use Rattle.pen.specs.Parts.{Room}
 
 pub record Wrote (name : Naming) (area area′ stack stack′ : List ℕ) (pen pen′ : Pen) (r : Record) : Type 0 where
   pub text : Lays area area′ (pen .at) (pen′ .at) (piece name (pen .turn) (drop (pen .top) stack) r)

@@ -1,0 +1,2 @@
+-- What the pen's parts do.
+pub mod Parts

@@ -1,9 +1,0 @@
--- `printer::deepen` meets its contract. Assumes nothing.
-use Rattle.printer.proofs.Stacks.{stacking}
-use borrow.Author.Needs.{needs}
-use Rattle.printer.proofs.deepen.Statement.{statement}
-use Rattle.printer.proofs.deepen.Tie as tie
-
-pub deepen-spec : {M : Type 1} → statement M
-deepen-spec =
-    tie.close (tie.spec (λ c. (search stacking, search stacking)) (λ c. search needs) (λ c. search needs) (λ c. search needs) (λ c. search needs) (λ c. (search stacking, search stacking)))

@@ -1,8 +1,0 @@
--- `printer::put_comma` meets its contract. Assumes nothing.
-use Rattle.printer.proofs.Stacks.{stacking}
-use borrow.Author.Needs.{needs}
-use Rattle.printer.proofs.put_comma.Statement.{statement}
-use Rattle.printer.proofs.put_comma.Tie as tie
-
-pub put-comma-spec : {M : Type 1} → statement M
-put-comma-spec = tie.close (tie.spec (λ c κs. search needs) (λ c. search needs) (λ c. search stacking) (λ c. search stacking))

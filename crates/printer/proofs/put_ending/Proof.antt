@@ -1,8 +1,0 @@
--- `printer::put_ending` meets its contract. Assumes nothing.
-use Rattle.printer.proofs.Writing.{signing}
-use borrow.Author.Needs.{needs}
-use Rattle.printer.proofs.put_ending.Statement.{statement}
-use Rattle.printer.proofs.put_ending.Tie as tie
-
-pub put-ending-spec : {M : Type 1} → statement M
-put-ending-spec = tie.close (tie.spec (λ c. search signing) (λ c κs. search needs) (λ c. search needs) (λ c. search signing))
