@@ -10,10 +10,11 @@ use lib.ListN.{length, drop}
 use Rattle.terms.specs.Node.{constant, compound, predicate, var, sym, Expr}
 use Rattle.terms.specs.When.{_⇒_∣_}
 use Rattle.search.specs.Next as Next
-use Rattle.words.specs.Flat.{flat}
+use Rattle.search.specs.Room.{nodes}
+use Rattle.words.specs.Flat.{flat, flat-size}
 use Rattle.format.specs.declared.Check.{Check}
 use Rattle.format.specs.declared.Record.{Record}
-use Rattle.format.specs.Format.{encode, nodeRecords, bookRecords, goalRecords, encodeBook, encodeGoal, GoodBook, GoodGoal, Bytes}
+use Rattle.format.specs.Format.{encode, nodeRecords, bookRecords, goalRecords, encodeBook, encodeGoal, AreFormulas, GoodBook, GoodGoal, Bytes}
 use Rattle.format.specs.Reading.{bookVerdict, queryVerdict}
 use Rattle.format.specs.Decode.{bookOf, goalOf}
 use Rattle.format.proofs.Decoding.{records-back, bookOf-good, goalOf-good}
@@ -27,9 +28,11 @@ use Rattle.namelist.specs.NamingLaws.{some, all-named}
 use Rattle.grammar.specs.Names.{Constant, Compound, Predicate}
 use Rattle.printouts.specs.declared.Printout.{Printout}
 use Rattle.printouts.specs.Walk.{walked}
-use Rattle.printouts.specs.WalkLaws.{walked-is, goal-walked-is}
+use Rattle.printouts.specs.WalkLaws.{walked-is, goal-walked}
 use Rattle.printouts.specs.Laying.{Lays, reach, lay-front, measured, over-long}
-use Rattle.printouts.specs.Outcome.{refusal, done, text-by, printAnswer, printArea, goalAnswer, goalArea}
+use Rattle.printouts.specs.Outcome.{refusal, done, outcome, outcome-area, printAnswer, printArea, goalAnswer, goalArea}
+use Rattle.printouts.specs.Answer.{answerVerdict, foundAnswer, foundArea}
+use Rattle.printouts.specs.AnswerLaws.{GoodFound, found-good}
 use Rattle.printouts.specs.OutcomeLaws.{Is, is-not-good, is-no-list, is-no-name, is-no-room, is-printed, long-is, short-is}
 use Rattle.printer.specs.Parts.{items, records-named, Checked, Suited, Prints-image}
 
@@ -141,41 +144,68 @@ book-refused book names area found r e n f =
     let i = is-not-good (bookVerdict book) (book-nodes (bookOf book)) (λ name. printed name (bookOf book)) names area (λ z. n (ap (λ (v : Check). v .code) e ∙ z)) in
     (f ∙ ap (λ (v : Check). refusal (v .code) (v .place)) e ∙ i .answer, i .area-is)
 
--- A goal
+-- A goal, or an answer
 
-module _ (book goal : List ℕ) (bytes : Bytes goal) (found : Check) (is : found ≡ queryVerdict book goal) (z : found .code ≡ 0) where
-  query-code : queryVerdict book goal .code ≡ 0
-  query-code = ap (λ (v : Check). v .code) (inv is) ∙ z
-
-  goal-good : GoodGoal (goalOf goal) × (encodeGoal (goalOf goal) ≡ goal)
-  goal-good = let q = goalOf-good book goal bytes query-code in (q .0, q .1)
-
+-- the image of formulas within a goal's sizes
+module _ (found : Check) (goal : List ℕ) (formulas : AreFormulas (goalOf goal)) (size : nodes (goalOf goal) ≤ 4096) (image : encodeGoal (goalOf goal) ≡ goal) where
   goal-items : items goal ≡ goalRecords (goalOf goal)
-  goal-items = records-back goal (goalRecords (goalOf goal)) (length goal) 0 (omega arith) (inv (goal-good .1))
+  goal-items = records-back goal (goalRecords (goalOf goal)) (length goal) 0 (omega arith) (inv image)
 
-  pub goal-image : goal ≡ encode (items goal)
-  goal-image = inv (goal-good .1) ∙ ap encode (inv goal-items)
+  formulas-image : goal ≡ encode (items goal)
+  formulas-image = inv image ∙ ap encode (inv goal-items)
 
   goal-named : (l : List Entry) → records-named l (goalRecords (goalOf goal)) ≡ all-named l (flat (goalOf goal))
   goal-named l =
       ap (records-named l) (inv (append-nil (nodeRecords (flat (goalOf goal)))))
       ∙ nodes-named l (flat (goalOf goal)) [] [] refl ∙ ap (all-named l) (append-nil (flat (goalOf goal)))
 
-  goal-suited : Suited goal (queryVerdict book goal) (flat (goalOf goal)) (λ name. printed-goal name (goalOf goal))
-  goal-suited =
+  formulas-suited : found .code ≡ 0 → Suited goal found (flat (goalOf goal)) (λ name. printed-goal name (goalOf goal))
+  formulas-suited z =
       record {
-        good = query-code;
+        good = z;
         named = λ l. ap (records-named l) goal-items ∙ goal-named l;
-        texts = λ name. ap (walked name 0 []) goal-items ∙ goal-walked-is name (goalOf goal) (goal-good .0);
+        texts = λ name. ap (walked name 0 []) goal-items ∙ goal-walked name (goalOf goal) formulas (omega (arith, flat-size (goalOf goal), size));
       }
 
-  pub goal-printed : (names area area′ : List ℕ) (r : Printout) → Prints-image goal names area area′ r → (r ≡ goalAnswer book goal names area) × (area′ ≡ goalArea book goal names area)
-  goal-printed names area area′ r p =
-      let i = p .is (queryVerdict book goal) (flat (goalOf goal)) (λ name. printed-goal name (goalOf goal)) goal-suited in
-      (i .answer, i .area-is)
+module _ (goal names area : List ℕ) (found : Check) where
+  abbrev Told : Check → Printout → List ℕ → Type 0
+  Told c r s =
+      (r ≡ outcome c (flat (goalOf goal)) (λ name. printed-goal name (goalOf goal)) names area)
+      × (s ≡ outcome-area c (flat (goalOf goal)) (λ name. printed-goal name (goalOf goal)) names area)
 
-pub goal-refused : (book goal names area : List ℕ) (found : Check) (r : Printout) → found ≡ queryVerdict book goal → (found .code ≡ 0 → ⊥) → r ≡ refusal (found .code) (found .place) →
-    (r ≡ goalAnswer book goal names area) × (area ≡ goalArea book goal names area)
-goal-refused book goal names area found r e n f =
-    let i = is-not-good (queryVerdict book goal) (flat (goalOf goal)) (λ name. printed-goal name (goalOf goal)) names area (λ z. n (ap (λ (v : Check). v .code) e ∙ z)) in
-    (f ∙ ap (λ (v : Check). refusal (v .code) (v .place)) e ∙ i .answer, i .area-is)
+  formulas-printed : (area′ : List ℕ) (r : Printout) → Suited goal found (flat (goalOf goal)) (λ name. printed-goal name (goalOf goal)) → Prints-image goal names area area′ r → Told found r area′
+  formulas-printed area′ r s p = let i = p .is found (flat (goalOf goal)) (λ name. printed-goal name (goalOf goal)) s in (i .answer, i .area-is)
+
+  pub formulas-refused : (v : Check) (r : Printout) → found ≡ v → (found .code ≡ 0 → ⊥) → r ≡ refusal (found .code) (found .place) → Told v r area
+  formulas-refused v r e n f =
+      let i = is-not-good v (flat (goalOf goal)) (λ name. printed-goal name (goalOf goal)) names area (λ z. n (ap (λ (c : Check). c .code) e ∙ z)) in
+      (f ∙ ap (λ (c : Check). refusal (c .code) (c .place)) e ∙ i .answer, i .area-is)
+
+module _ (book goal : List ℕ) (bytes : Bytes goal) (found : Check) (z : found .code ≡ 0) where
+  module _ (is : found ≡ queryVerdict book goal) where
+    query-code : queryVerdict book goal .code ≡ 0
+    query-code = ap (λ (v : Check). v .code) (inv is) ∙ z
+
+    good : GoodGoal (goalOf goal) × (encodeGoal (goalOf goal) ≡ goal)
+    good = let q = goalOf-good book goal bytes query-code in (q .0, q .1)
+
+    pub goal-image : goal ≡ encode (items goal)
+    goal-image = formulas-image found goal (good .0 .formulas) (good .0 .fitting .size) (good .1)
+
+    pub goal-printed : (names area area′ : List ℕ) (r : Printout) → Prints-image goal names area area′ r → (r ≡ goalAnswer book goal names area) × (area′ ≡ goalArea book goal names area)
+    goal-printed names area area′ r p =
+        formulas-printed goal names area (queryVerdict book goal) area′ r (formulas-suited (queryVerdict book goal) goal (good .0 .formulas) (good .0 .fitting .size) (good .1) query-code) p
+
+  module _ (is : found ≡ answerVerdict book goal) where
+    answer-code : answerVerdict book goal .code ≡ 0
+    answer-code = ap (λ (v : Check). v .code) (inv is) ∙ z
+
+    meant : GoodFound goal
+    meant = found-good book goal bytes answer-code
+
+    pub answer-image : goal ≡ encode (items goal)
+    answer-image = formulas-image found goal (meant .formulas) (meant .size) (meant .image)
+
+    pub answer-printed : (names area area′ : List ℕ) (r : Printout) → Prints-image goal names area area′ r → (r ≡ foundAnswer book goal names area) × (area′ ≡ foundArea book goal names area)
+    answer-printed names area area′ r p =
+        formulas-printed goal names area (answerVerdict book goal) area′ r (formulas-suited (answerVerdict book goal) goal (meant .formulas) (meant .size) (meant .image) answer-code) p

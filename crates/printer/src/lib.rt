@@ -2,6 +2,7 @@
 use crate::naming::all_named;
 use crate::naming::check_names;
 use crate::writing::put_record;
+use answers::check_answer;
 use pen::Pen;
 use printouts::Printout;
 use records::check_book;
@@ -17,6 +18,7 @@ ghost use Rattle.namelist.specs.ListLaws.{Stands};
 ghost use Rattle.printouts.specs.Walk.{walked};
 ghost use Rattle.printouts.specs.Laying.{Lays, reach};
 ghost use Rattle.printouts.specs.Outcome.{refusal, printAnswer, printArea, goalAnswer, goalArea};
+ghost use Rattle.printouts.specs.Answer.{foundAnswer, foundArea};
 ghost use Rattle.printer.specs.Parts.{items, Prints-image};
 
 mod naming;
@@ -109,7 +111,7 @@ pub fn print_book(book: &[u8], names: &[u8], area: &mut [u8]) -> Printout
     refusal(found.code, found.place)
 }
 
-// The same for a goal, or an answer, that is good by its book.
+// The same for a goal that is good by its book.
 pub fn print_goal(book: &[u8], goal: &[u8], names: &[u8], area: &mut [u8]) -> Printout
     ensures answer { λ r. ⌜ r ≡ goalAnswer (now (book .entry)) (now (goal .entry)) (now (names .entry)) (now (area .entry)) ⌝ }
     ensures text { λ _. ⌜ now (area .exit) ≡ goalArea (now (book .entry)) (now (goal .entry)) (now (names .entry)) (now (area .entry)) ⌝ }
@@ -117,6 +119,18 @@ pub fn print_goal(book: &[u8], goal: &[u8], names: &[u8], area: &mut [u8]) -> Pr
     let found = check_query(book, goal);
     if found.code == 0 {
         return print_image(goal, names, area);
+    }
+    refusal(found.code, found.place)
+}
+
+// And for the answer of a run, whose variables go on from those of the closing goal (document 02, C-11).
+pub fn print_answer(book: &[u8], answer: &[u8], names: &[u8], area: &mut [u8]) -> Printout
+    ensures answer { λ r. ⌜ r ≡ foundAnswer (now (book .entry)) (now (answer .entry)) (now (names .entry)) (now (area .entry)) ⌝ }
+    ensures text { λ _. ⌜ now (area .exit) ≡ foundArea (now (book .entry)) (now (answer .entry)) (now (names .entry)) (now (area .entry)) ⌝ }
+{
+    let found = check_answer(book, answer);
+    if found.code == 0 {
+        return print_image(answer, names, area);
     }
     refusal(found.code, found.place)
 }

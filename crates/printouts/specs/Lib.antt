@@ -7,3 +7,7 @@ pub mod OutcomeLaws
 pub mod SpeltLaws
 pub mod OwnLaws
 pub mod Again
+pub mod Answer
+pub mod ClearLaws
+pub mod AnswerLaws
+pub mod AnswerCases

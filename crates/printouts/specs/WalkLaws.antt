@@ -203,12 +203,9 @@ module _ (name : Naming) where
       ap (walked name 3 []) (records-append f (flat g))
       ∙ formula-walked name 3 (more-laid (named-formulas name g)) (nodeRecords (flat g)) (more-walked g (h .1) (omega (arith, length-append f (flat g)))) f (h .0) (omega (arith, length-append f (flat g))) 3 refl
 
-  goal-walked : (g : Next.Goal) → AreFormulas g → length (flat g) ≤ 4096 → walked name 0 [] (goalRecords g) ≡ printed-goal name g
+  -- and of a goal, whatever numbers its variables have
+  pub goal-walked : (g : Next.Goal) → AreFormulas g → length (flat g) ≤ 4096 → walked name 0 [] (goalRecords g) ≡ printed-goal name g
   goal-walked [] h s = refl
   goal-walked (f ∷ g) h s =
       ap (walked name 4 []) (records-append f (flat g))
       ∙ formula-walked name 3 (more-laid (named-formulas name g)) (nodeRecords (flat g)) (more-walked g (h .1) (omega (arith, length-append f (flat g)))) f (h .0) (omega (arith, length-append f (flat g))) 4 refl
-
-  -- and of a good goal
-  pub goal-walked-is : (g : Next.Goal) → GoodGoal g → walked name 0 [] (goalRecords g) ≡ printed-goal name g
-  goal-walked-is g good = goal-walked g (good .formulas) (omega (arith, flat-size g, good .fitting .size))
