@@ -3,6 +3,7 @@ use crate::entries::{Answer, apply, pick, run_in, step};
 use crate::flat;
 use crate::item::{Case, Entry, Item};
 use crate::period;
+use crate::print;
 use crate::read::{self, Profile, Refusal};
 
 /// The sum that `try_entries` makes of bytes.
@@ -62,6 +63,22 @@ fn of_run(entry: Entry, case: &Case) -> Result<String, String> {
     Ok(format!("{numbers} {} {}", sum(&area), sum(&answer)))
 }
 
+/// Code, place and bytes of what is printed, and what the area holds then.
+fn printed(entry: Entry, case: &Case) -> String {
+    let mut area = case.area.bytes();
+    let text = if entry == Entry::PrintBook {
+        print::book_text(&case.book, &case.query)
+    } else {
+        let (goal, list) = case.query.split_at(case.query.len().min(case.number as usize));
+        print::goal_text(&case.book, goal, list)
+    };
+    let numbers = match print::laid(text, &mut area) {
+        Ok(bytes) => format!("0 0 {bytes}"),
+        Err(refusal) => format!("{} {} 0", refusal.code, refusal.place),
+    };
+    format!("{numbers} {}", sum(&area))
+}
+
 /// The numbers of an entry that is lent an area, and what the area holds then.
 fn lent(entry: Entry, case: &Case) -> String {
     let mut area = case.area.bytes();
@@ -97,6 +114,7 @@ pub fn line(item: &Item) -> Result<String, String> {
         Entry::CheckFlatBook => Ok(flat::line(&item.case.book)),
         Entry::FlatBookForC => Ok(flat::number(&item.case.book).to_string()),
         entry @ (Entry::Pick | Entry::PickForC) => Ok(picked(entry, pick(&item.case.book, &item.case.query))),
+        entry @ (Entry::PrintBook | Entry::PrintGoal) => Ok(printed(entry, &item.case)),
         entry @ (Entry::Run | Entry::RunForC | Entry::FlatRun | Entry::FlatRunForC) => of_run(entry, &item.case),
         entry => Ok(lent(entry, &item.case)),
     }

@@ -23,11 +23,15 @@ mod growing;
 mod image;
 mod item;
 mod list;
+mod namelist;
 mod notation;
 mod path;
 mod pen;
 mod period;
 mod play;
+mod print;
+mod printed;
+mod prints;
 mod random;
 mod read;
 mod reason;
@@ -81,7 +85,7 @@ fn show(stream: &[u8], n: &str) -> Done {
 }
 
 fn table() -> Done {
-    let wrong = [table::all_wrong(), worked::all_wrong()].concat();
+    let wrong = [table::all_wrong(), worked::all_wrong(), printed::all_wrong()].concat();
     if wrong.is_empty() { Ok(()) } else { Err(wrong.join("\n")) }
 }
 

@@ -1,4 +1,4 @@
-// Streams of items: the documents' cases, the lists, inputs cut and changed at every byte, and then inputs at random.
+// Streams of items: the documents' cases, the lists, inputs cut and changed at every byte, texts about as long as they may be, and then inputs at random.
 use crate::arities;
 use crate::chains;
 use crate::circles;
@@ -9,6 +9,8 @@ use crate::flat;
 use crate::growing;
 use crate::item::{Area, Case, Entry, FLAT, Item, PLAIN};
 use crate::list::{self, Line};
+use crate::printed;
+use crate::prints;
 use crate::read::{self, Profile};
 use crate::rooms;
 use crate::stuck;
@@ -160,6 +162,7 @@ fn random_items(lines: &[Line], dice: &mut Dice) -> Vec<Item> {
         0..2 => around_the_end(&case),
         2 => in_two(&case, dice),
         3..5 => vec![Item { entry: FLAT[dice.below(8) as usize], case: flat::made(case, dice) }],
+        5..7 => vec![prints::made(case, dice)],
         _ => vec![Item { entry: random_entry(dice), case }],
     }
 }
@@ -178,6 +181,8 @@ pub fn long(seed: u64, count: usize) -> Vec<Item> {
     items.extend(damaged_flat(&mut dice));
     let small = list::cases(list::SMALL, &mut dice);
     items.extend(at_flat_entries(small, &mut dice));
+    items.extend(printed::items(&mut dice));
+    items.extend((65530..65543).flat_map(|bytes| prints::long(bytes, &mut dice)));
     let lines = list::lines(list::RANDOM);
     while items.len() < count {
         items.extend(random_items(&lines, &mut dice).into_iter().filter(Item::has_room));
@@ -214,6 +219,7 @@ pub fn short() -> Vec<Item> {
     items.extend(runs(list::cases(list::ANSWERS, &mut dice)).filter(is_short));
     let flat = [table::cases(&mut dice), worked::cases(&mut dice)].concat();
     items.extend(at_flat_entries(flat, &mut dice).into_iter().filter(is_short));
+    items.extend(printed::items(&mut dice));
     let lines = list::lines(list::RANDOM);
     let count = items.len() + 300;
     while items.len() < count {

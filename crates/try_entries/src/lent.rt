@@ -1,9 +1,11 @@
 // The entries that are lent areas, and the checks, but for the plain one of a book, and the picks, which have no use for them. Their items have: a run's budget or an apply's clause number (4 bytes), of
 // which a check, a single step and a pick have no use; the goal area's length (4 bytes), its first byte and what each byte has more than the one before it, modulo
-// 256 (1 byte each); the same of the answer area, of which only a run has use; the book's length (4 bytes), the book, and the query.
+// 256 (1 byte each); the same of the answer area, of which only a run has use; the book's length (4 bytes), the book, and the query. Where a book is printed, the list
+// of names stands in the query's place; where a goal is, the goal and behind it the list, and the goal's length in the place of the budget.
 use crate::entries;
 use crate::flat;
 use crate::number;
+use crate::print;
 ghost use mathlib.Core.Path.{_≡_};
 ghost use mathlib.Core.Bool.{true};
 ghost use Prim.Native.Nat.{_≤_};
@@ -22,6 +24,16 @@ fn fill(area: &mut [u8], first: u8, more: u8) {
         area[i] = byte;
         byte = next(byte, more);
     }
+}
+
+// A goal, and the list of names behind it; a length past the end is all there is.
+fn goal(book: &[u8], length: usize, both: &[u8], area: &mut [u8]) -> bool
+    ensures { λ r. ⌜ r ≡ true ⌝ }
+{
+    if both.len() < length {
+        return print::goal(book, both, &both[both.len()..], area);
+    }
+    print::goal(book, &both[0..length], &both[length..], area)
 }
 
 fn call(
@@ -50,7 +62,9 @@ fn call(
         14 => flat::book_for_c(book),
         15 => flat::query_for_c(book, query),
         16 => flat::step_for_c(book, query, area),
-        _ => flat::run_for_c(book, query, number, area, answer),
+        17 => flat::run_for_c(book, query, number, area, answer),
+        18 => print::book(book, query, area),
+        _ => goal(book, number as usize, query, area),
     }
 }
 
