@@ -1,0 +1,14 @@
+-- The numbers, as they are put together.
+use Prim.Native.Nat.{ℕ, _+_, _*_, _^_}
+use mathlib.Core.Path.{_≡_}
+use native.Mathlib.Omega.{arith}
+use borrow.Author.Tests.{eq-eqb, ne-eqb}
+use Rattle.printouts.specs.declared.Printout.{Printout}
+use Rattle.office.specs.Numbers.{textNumber}
+
+module _ (p : Printout) (n : ℕ) where
+  pub of-printed : p .code ≡ 0 → n ≡ p .code + 256 * p .bytes + 2 ^ 32 * 0 → n ≡ textNumber p
+  of-printed z e = simp (eq-eqb (p .code) 0 z) (omega (arith, e))
+
+  pub of-refused : (p .code ≡ 0 → ⊥) → n ≡ p .code + 256 * p .place + 2 ^ 32 * 0 → n ≡ textNumber p
+  of-refused z e = simp (ne-eqb (p .code) 0 z) (omega (arith, e))

@@ -1,0 +1,4 @@
+-- The numbers that C gets of printing, and what they say.
+pub mod Numbers
+pub mod Figures
+pub mod Once

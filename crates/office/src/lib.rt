@@ -1,0 +1,54 @@
+// Printing for C: "called from there with numbers and byte areas only". The number has no steps.
+use numbers::pack;
+use printer::print_answer;
+use printer::print_book;
+use printer::print_goal;
+use printouts::Printout;
+ghost use mathlib.Core.Path.{_≡_};
+ghost use Rattle.printouts.specs.Outcome.{printAnswer, printArea, goalAnswer, goalArea};
+ghost use Rattle.printouts.specs.Answer.{foundAnswer, foundArea};
+ghost use Rattle.office.specs.Numbers.{TextNarrow, textNumber};
+
+fn text_number(p: Printout) -> u64
+    requires { ⌜ TextNarrow p ⌝ }
+    ensures { λ r. ⌜ r ≡ textNumber p ⌝ }
+{
+    if p.code == 0 {
+        return pack(p.code, p.bytes as u32, 0);
+    }
+    pack(p.code, p.place as u32, 0)
+}
+
+#[no_mangle]
+pub extern "C" fn pitxargole_print_book(book: &[u8], names: &[u8], area: &mut [u8]) -> u64
+    ensures said { λ r. ⌜ r ≡ textNumber (printAnswer (now (book .entry)) (now (names .entry)) (now (area .entry))) ⌝ }
+    ensures text { λ _. ⌜ now (area .exit) ≡ printArea (now (book .entry)) (now (names .entry)) (now (area .entry)) ⌝ }
+{
+    text_number(print_book(book, names, area))
+}
+
+#[no_mangle]
+pub extern "C" fn pitxargole_print_goal(
+    book: &[u8],
+    goal: &[u8],
+    names: &[u8],
+    area: &mut [u8],
+) -> u64
+    ensures said { λ r. ⌜ r ≡ textNumber (goalAnswer (now (book .entry)) (now (goal .entry)) (now (names .entry)) (now (area .entry))) ⌝ }
+    ensures text { λ _. ⌜ now (area .exit) ≡ goalArea (now (book .entry)) (now (goal .entry)) (now (names .entry)) (now (area .entry)) ⌝ }
+{
+    text_number(print_goal(book, goal, names, area))
+}
+
+#[no_mangle]
+pub extern "C" fn pitxargole_print_answer(
+    book: &[u8],
+    answer: &[u8],
+    names: &[u8],
+    area: &mut [u8],
+) -> u64
+    ensures said { λ r. ⌜ r ≡ textNumber (foundAnswer (now (book .entry)) (now (answer .entry)) (now (names .entry)) (now (area .entry))) ⌝ }
+    ensures text { λ _. ⌜ now (area .exit) ≡ foundArea (now (book .entry)) (now (answer .entry)) (now (names .entry)) (now (area .entry)) ⌝ }
+{
+    text_number(print_answer(book, answer, names, area))
+}
