@@ -25,7 +25,7 @@ extern "C" {
    where a length is 0, and `area` overlaps nothing else that is given; so it is with all functions here. */
 uint64_t pitxargole_print_book(const uint8_t *book, uint64_t book_length, const uint8_t *names, uint64_t names_length, uint8_t *area, uint64_t area_length);
 
-/* Prints a query, or the goal that a run has left: formulas with a comma and a blank between them, on one line with no full stop and no LF. An empty goal is no text. */
+/* Prints a query, or the goal that a run has left: formulas with a comma and a blank between them, on one line with no full stop and no LF. An empty goal is no text. A call needs no more than PITXARGOLE_STACK bytes of stack. */
 uint64_t pitxargole_print_goal(const uint8_t *book, uint64_t book_length, const uint8_t *goal, uint64_t goal_length, const uint8_t *names, uint64_t names_length,
                                uint8_t *area, uint64_t area_length);
 

@@ -48,7 +48,7 @@ pub record Out (e : Expr) (text : Naming → List ℕ) (names area : List ℕ) (
   pub short : length (text (naming entries)) ≤ 65536
   pub front : take (p .bytes) s ≡ text (naming entries)
 
-out : {found : Check} {e : Expr} {text : Naming → List ℕ} {names area : List ℕ} {p : Printout} {s : List ℕ} → Prints found e text names area p s → p .code ≡ 0 → Out e text names area p s
+pub out : {found : Check} {e : Expr} {text : Naming → List ℕ} {names area : List ℕ} {p : Printout} {s : List ℕ} → Prints found e text names area p s → p .code ≡ 0 → Out e text names area p s
 out (not-good n) z = absurd (n z)
 out (no-list g n) z = absurd (omega (arith, z))
 out (no-name g l u) z = absurd (omega (arith, z))
@@ -56,7 +56,7 @@ out (no-room g l u w) z = absurd (omega (arith, z))
 out {text} {area} (prints {l} g list all a b) z =
     record { entries = l; list = list; all = all; short = a; front = take-append-seam (text (naming l)) (drop (length (text (naming l))) area) }
 
-code-good : {found : Check} {e : Expr} {text : Naming → List ℕ} {names area : List ℕ} {p : Printout} {s : List ℕ} → Prints found e text names area p s → p .code ≡ 0 → found .code ≡ 0
+pub code-good : {found : Check} {e : Expr} {text : Naming → List ℕ} {names area : List ℕ} {p : Printout} {s : List ℕ} → Prints found e text names area p s → p .code ≡ 0 → found .code ≡ 0
 code-good (not-good n) z = absurd (n z)
 code-good (no-list g n) z = g
 code-good (no-name g l u) z = g
@@ -106,7 +106,7 @@ module _ (bytes names area : List ℕ) (book-bytes : Bytes bytes) (names-bytes :
 
 -- A book that was read, with its own list
 
-lists-same : (g h : Sort → List (List ℕ)) → ((k : Sort) → g k ≡ h k) → list-of g ≡ list-of h
+pub lists-same : (g h : Sort → List (List ℕ)) → ((k : Sort) → g k ≡ h k) → list-of g ≡ list-of h
 lists-same g h e =
     ap₂ (λ (x y : List ℕ). x ++ y) (ap (Names.entries Constant 0) (e Constant)) (ap₂ (λ (x y : List ℕ). x ++ y) (ap (Names.entries Compound 0) (e Compound)) (ap (Names.entries Predicate 0) (e Predicate)))
 

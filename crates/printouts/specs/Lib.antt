@@ -7,6 +7,7 @@ pub mod OutcomeLaws
 pub mod SpeltLaws
 pub mod OwnLaws
 pub mod Again
+pub mod AgainGoal
 pub mod Answer
 pub mod ClearLaws
 pub mod AnswerLaws
