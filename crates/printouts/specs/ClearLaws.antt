@@ -39,7 +39,7 @@ module _ (s : List ℕ) (at : ℕ) where
       cases (eqb (getD s at 0) 1)
       (λ e. rw e (getD-set-other (set s (at + 1) 0) (at + 2) i 0 0 (λ p. let z : ⊥ = omega (arith, p) in z) ∙ getD-set-other s (at + 1) i 0 0 (λ p. let z : ⊥ = omega (arith, p) in z))) (λ e. rw e refl)
 
-  clear-none : (getD s at 0 ≡ 1 → ⊥) → clear-at s at ≡ s
+  pub clear-none : (getD s at 0 ≡ 1 → ⊥) → clear-at s at ≡ s
   unfolding clear-at
   clear-none n = rw (ne-eqb (getD s at 0) 1 n) refl
 

@@ -11,4 +11,5 @@ pub mod AgainGoal
 pub mod Answer
 pub mod ClearLaws
 pub mod AnswerLaws
+pub mod AnswerImage
 pub mod AnswerCases
