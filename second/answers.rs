@@ -66,11 +66,11 @@ fn of_run(entry: Entry, case: &Case) -> Result<String, String> {
 /// Code, place and bytes of what is printed, and what the area holds then.
 fn printed(entry: Entry, case: &Case) -> String {
     let mut area = case.area.bytes();
-    let text = if entry == Entry::PrintBook {
-        print::book_text(&case.book, &case.query)
-    } else {
-        let (goal, list) = case.query.split_at(case.query.len().min(case.number as usize));
-        print::goal_text(&case.book, goal, list)
+    let (goal, list) = case.query.split_at(case.query.len().min(case.number as usize));
+    let text = match entry {
+        Entry::PrintBook => print::book_text(&case.book, &case.query),
+        Entry::PrintGoal => print::goal_text(&case.book, goal, list),
+        _ => print::answer_text(&case.book, goal, list),
     };
     let numbers = match print::laid(text, &mut area) {
         Ok(bytes) => format!("0 0 {bytes}"),
@@ -114,7 +114,7 @@ pub fn line(item: &Item) -> Result<String, String> {
         Entry::CheckFlatBook => Ok(flat::line(&item.case.book)),
         Entry::FlatBookForC => Ok(flat::number(&item.case.book).to_string()),
         entry @ (Entry::Pick | Entry::PickForC) => Ok(picked(entry, pick(&item.case.book, &item.case.query))),
-        entry @ (Entry::PrintBook | Entry::PrintGoal) => Ok(printed(entry, &item.case)),
+        entry @ (Entry::PrintBook | Entry::PrintGoal | Entry::PrintAnswer) => Ok(printed(entry, &item.case)),
         entry @ (Entry::Run | Entry::RunForC | Entry::FlatRun | Entry::FlatRunForC) => of_run(entry, &item.case),
         entry => Ok(lent(entry, &item.case)),
     }

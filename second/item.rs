@@ -62,13 +62,14 @@ pub enum Entry {
     FlatRunForC,
     PrintBook,
     PrintGoal,
+    PrintAnswer,
 }
 
 use Entry::*;
 pub const PLAIN: [Entry; 9] = [CheckBook, CheckQuery, Step, Run, RunForC, Pick, Apply, PickForC, ApplyForC];
 pub const FLAT: [Entry; 8] =
     [CheckFlatBook, CheckFlatQuery, FlatStep, FlatRun, FlatBookForC, FlatQueryForC, FlatStepForC, FlatRunForC];
-pub const PRINTS: [Entry; 2] = [PrintBook, PrintGoal];
+pub const PRINTS: [Entry; 3] = [PrintBook, PrintGoal, PrintAnswer];
 
 pub fn entries() -> impl Iterator<Item = Entry> {
     PLAIN.into_iter().chain(FLAT).chain(PRINTS)
@@ -79,14 +80,15 @@ impl Entry {
     pub fn areas(self) -> usize {
         match self {
             Run | RunForC | FlatRun | FlatRunForC => 2,
-            Step | Apply | ApplyForC | FlatStep | FlatStepForC | PrintBook | PrintGoal => 1,
+            Step | Apply | ApplyForC | FlatStep | FlatStepForC | PrintBook | PrintGoal | PrintAnswer => 1,
             _ => 0,
         }
     }
 }
 
 /// A check of a book has no use for the query, nor for number and areas; that of a query and a pick have none for number and areas; the others likewise.
-/// Where a book is printed, its list of names stands in the query's place; where a goal is, the goal and then the list, and the number is the goal's length.
+/// Where a book is printed, its list of names stands in the query's place; where a goal or an answer is, the goal
+/// and then the list, and the number is the goal's length.
 pub struct Item {
     pub entry: Entry,
     pub case: Case,

@@ -1,7 +1,7 @@
 // A book or a goal printed with its names (document 02, C-14): trees to text, "spaced as in P1".
 use crate::namelist::{COMPOUND, CONSTANT, Names, PREDICATE};
 use crate::read::{self, Profile, Refusal};
-use crate::tree::{Clause, Formula, Term, Tree};
+use crate::tree::{Clause, Formula, Goal, Term, Tree};
 
 type Read<T> = Result<T, Refusal>;
 
@@ -69,12 +69,21 @@ pub fn book_text(book: &[u8], list: &[u8]) -> Read<Vec<u8>> {
 }
 
 /// On one line, without a full stop.
+fn line(goal: &Goal, list: &[u8]) -> Read<Vec<u8>> {
+    let mut pen = Pen::new(list)?;
+    pen.formulas(goal)?;
+    Ok(pen.out)
+}
+
 pub fn goal_text(book: &[u8], goal: &[u8], list: &[u8]) -> Read<Vec<u8>> {
     let clauses = read::book(Profile::Plain, book)?;
-    let goal = read::query(Profile::Plain, &clauses, goal)?;
-    let mut pen = Pen::new(list)?;
-    pen.formulas(&goal)?;
-    Ok(pen.out)
+    line(&read::query(Profile::Plain, &clauses, goal)?, list)
+}
+
+/// An answer has the numbers that the run gave its variables.
+pub fn answer_text(book: &[u8], answer: &[u8], list: &[u8]) -> Read<Vec<u8>> {
+    let clauses = read::book(Profile::Plain, book)?;
+    line(&read::answer(&clauses, answer)?, list)
 }
 
 /// The text at the area's front, and its length; "46 the text doesn't fit the text area or is over 65,536 bytes".

@@ -36,7 +36,7 @@ fn symbols(book: &[u8], goal: &[u8]) -> BTreeSet<Symbol> {
     let mut all = BTreeSet::new();
     if let Ok(clauses) = read::book(Profile::Plain, book) {
         in_formulas(clauses.iter().flat_map(|c| [&c.head].into_iter().chain(&c.body)), &mut all);
-        in_formulas(&read::query(Profile::Plain, &clauses, goal).unwrap_or_default(), &mut all);
+        in_formulas(&read::answer(&clauses, goal).unwrap_or_default(), &mut all);
     }
     all
 }
@@ -132,21 +132,23 @@ pub fn book_item(book: Vec<u8>, list: Vec<u8>, dice: &mut Dice) -> Item {
     Item { entry: Entry::PrintBook, case: Case { book, query: list, number: 0, area, answer: Area::usual(dice) } }
 }
 
-/// The goal's length stands in the place of a number, and the list behind the goal.
-pub fn goal_item(book: Vec<u8>, goal: &[u8], list: &[u8], dice: &mut Dice) -> Item {
-    let area = area(print::goal_text(&book, goal, list).map_or(100, |text| text.len()), dice);
+/// A goal or an answer. Its length stands in the place of a number, and the list behind it.
+pub fn goal_item(entry: Entry, book: Vec<u8>, goal: &[u8], list: &[u8], dice: &mut Dice) -> Item {
+    let area = area(print::answer_text(&book, goal, list).map_or(100, |text| text.len()), dice);
     let case = Case { book, query: [goal, list].concat(), number: goal.len() as u32, area, answer: Area::usual(dice) };
-    Item { entry: Entry::PrintGoal, case }
+    Item { entry, case }
 }
 
-/// The query of a case, or the goal or the answer that a run leaves.
-fn goal(case: &Case, dice: &mut Dice) -> Vec<u8> {
-    if dice.once_in(3) {
-        return case.query.clone();
-    }
+/// The query of a case, or the goal or the answer that a run leaves, mostly at the entry that it is for.
+fn goal(case: &Case, dice: &mut Dice) -> (Entry, Vec<u8>) {
     let (mut area, mut answer) = ([0; 16387], [0; 16387]);
     let a = run(&case.book, &case.query, dice.below(30), &mut area, &mut answer);
-    if dice.once_in(2) { area[..a.bytes as usize].to_vec() } else { answer[..a.answer as usize].to_vec() }
+    let (entry, image) = match dice.below(3) {
+        0 => (Entry::PrintGoal, &case.query[..]),
+        1 => (Entry::PrintGoal, &area[..a.bytes as usize]),
+        _ => (Entry::PrintAnswer, &answer[..a.answer as usize]),
+    };
+    (if dice.once_in(8) { [Entry::PrintGoal, Entry::PrintAnswer][dice.below(2) as usize] } else { entry }, image.to_vec())
 }
 
 /// A case's book, or a goal of it, printed.
@@ -155,9 +157,9 @@ pub fn made(case: Case, dice: &mut Dice) -> Item {
         let list = list(&case.book, &[], dice);
         return book_item(case.book, list, dice);
     }
-    let goal = goal(&case, dice);
+    let (entry, goal) = goal(&case, dice);
     let list = list(&case.book, &goal, dice);
-    goal_item(case.book, &goal, &list, dice)
+    goal_item(entry, case.book, &goal, &list, dice)
 }
 
 /// Formulas that make so many bytes of text, each with two bytes behind it: long ones, and then predicates whose names fill the rest; and the list of names.
@@ -182,5 +184,5 @@ pub fn long(bytes: usize, dice: &mut Dice) -> [Item; 2] {
     let (formulas, list) = filling(bytes);
     let clauses: Vec<Clause> = formulas.into_iter().map(|f| clause(f, vec![])).collect();
     let (goal, names) = filling(bytes + 2);
-    [book_item(image::of_book(&clauses), list, dice), goal_item(vec![7], &image::of(&goal), &names, dice)]
+    [book_item(image::of_book(&clauses), list, dice), goal_item(Entry::PrintGoal, vec![7], &image::of(&goal), &names, dice)]
 }

@@ -8,15 +8,17 @@ pub struct Refusal {
     pub place: u32,
 }
 
-/// What the codes of a book and of a query differ in.
+/// What a book, a query and an answer differ in: codes, sizes, and whether variables are numbered by first appearance.
 struct Limits {
     add: u8,
     nodes: u32,
     variables: u32,
+    numbered: bool,
 }
 
-const IN_CLAUSE: Limits = Limits { add: 0, nodes: 256, variables: 64 };
-const IN_QUERY: Limits = Limits { add: 10, nodes: 4096, variables: u32::MAX };
+const IN_CLAUSE: Limits = Limits { add: 0, nodes: 256, variables: 64, numbered: true };
+const IN_QUERY: Limits = Limits { add: 10, nodes: 4096, variables: u32::MAX, numbered: true };
+const IN_ANSWER: Limits = Limits { numbered: false, ..IN_QUERY };
 
 /// Whether compound terms may stand in the input (document 02, C-20).
 #[derive(Clone, Copy, PartialEq)]
@@ -107,7 +109,7 @@ impl Reader<'_> {
         if number >= self.limits.variables {
             return self.bad(5, place);
         }
-        if number > self.next {
+        if self.limits.numbered && number > self.next {
             return self.bad(6, place);
         }
         self.next = self.next.max(number + 1);
@@ -157,10 +159,19 @@ fn used(clauses: &[Clause]) -> Arities {
 
 /// A query against the clauses of its book, which is good.
 pub fn query(profile: Profile, clauses: &[Clause], bytes: &[u8]) -> Result<Goal, Refusal> {
+    goal(IN_QUERY, profile, clauses, bytes)
+}
+
+/// An answer of a run: its variables have the closing goal's numbers, and others behind them (document 02, C-11).
+pub fn answer(clauses: &[Clause], bytes: &[u8]) -> Result<Goal, Refusal> {
+    goal(IN_ANSWER, Profile::Plain, clauses, bytes)
+}
+
+fn goal(limits: Limits, profile: Profile, clauses: &[Clause], bytes: &[u8]) -> Result<Goal, Refusal> {
     if bytes.len() > 16387 {
         return Err(Refusal { code: 15, place: 16387 });
     }
-    let mut reader = Reader { bytes, at: 0, limits: IN_QUERY, profile, nodes: 0, next: 0, arities: used(clauses) };
+    let mut reader = Reader { bytes, at: 0, limits, profile, nodes: 0, next: 0, arities: used(clauses) };
     let (place, _, body) = reader.record(&[6])?;
     if two(&body) > 512 {
         return reader.bad(4, place);

@@ -1,7 +1,7 @@
 // The entries that are lent areas, and the checks, but for the plain one of a book, and the picks, which have no use for them. Their items have: a run's budget or an apply's clause number (4 bytes), of
 // which a check, a single step and a pick have no use; the goal area's length (4 bytes), its first byte and what each byte has more than the one before it, modulo
 // 256 (1 byte each); the same of the answer area, of which only a run has use; the book's length (4 bytes), the book, and the query. Where a book is printed, the list
-// of names stands in the query's place; where a goal is, the goal and behind it the list, and the goal's length in the place of the budget.
+// of names stands in the query's place; where a goal or an answer is, that and behind it the list, and the goal's length in the place of the budget.
 use crate::entries;
 use crate::flat;
 use crate::number;
@@ -26,14 +26,31 @@ fn fill(area: &mut [u8], first: u8, more: u8) {
     }
 }
 
-// A goal, and the list of names behind it; a length past the end is all there is.
-fn goal(book: &[u8], length: usize, both: &[u8], area: &mut [u8]) -> bool
+fn least(a: usize, b: usize) -> usize
+    ensures { λ r. ⌜ r ≤ b ⌝ }
+{
+    if a < b {
+        return a;
+    }
+    b
+}
+
+// Those that have a list of names.
+fn named(entry: u8, book: &[u8], goal: &[u8], names: &[u8], area: &mut [u8]) -> bool
     ensures { λ r. ⌜ r ≡ true ⌝ }
 {
-    if both.len() < length {
-        return print::goal(book, both, &both[both.len()..], area);
+    match entry {
+        19 => print::goal(book, goal, names, area),
+        _ => print::answer(book, goal, names, area),
     }
-    print::goal(book, &both[0..length], &both[length..], area)
+}
+
+// The list stands behind the goal; a length past the end is all there is.
+fn with_names(entry: u8, book: &[u8], length: usize, both: &[u8], area: &mut [u8]) -> bool
+    ensures { λ r. ⌜ r ≡ true ⌝ }
+{
+    let n = least(length, both.len());
+    named(entry, book, &both[0..n], &both[n..], area)
 }
 
 fn call(
@@ -64,7 +81,7 @@ fn call(
         16 => flat::step_for_c(book, query, area),
         17 => flat::run_for_c(book, query, number, area, answer),
         18 => print::book(book, query, area),
-        _ => goal(book, number as usize, query, area),
+        _ => with_names(entry, book, number as usize, query, area),
     }
 }
 

@@ -6,6 +6,7 @@ use printouts::Printout;
 ghost use mathlib.Core.Path.{_≡_};
 ghost use mathlib.Core.Bool.{true};
 ghost use Rattle.printouts.specs.Outcome.{printArea, goalArea};
+ghost use Rattle.printouts.specs.Answer.{foundArea};
 
 fn printed(a: Printout, area: &[u8]) -> bool
     ensures { λ r. ⌜ r ≡ true ⌝ }
@@ -29,5 +30,13 @@ pub fn goal(book: &[u8], goal: &[u8], names: &[u8], area: &mut [u8]) -> bool
     ensures area { λ _. ⌜ now (area .exit) ≡ goalArea (now (book .entry)) (now (goal .entry)) (now (names .entry)) (now (area .entry)) ⌝ }
 {
     let a = printer::print_goal(book, goal, names, area);
+    printed(a, area)
+}
+
+pub fn answer(book: &[u8], answer: &[u8], names: &[u8], area: &mut [u8]) -> bool
+    ensures { λ r. ⌜ r ≡ true ⌝ }
+    ensures area { λ _. ⌜ now (area .exit) ≡ foundArea (now (book .entry)) (now (answer .entry)) (now (names .entry)) (now (area .entry)) ⌝ }
+{
+    let a = printer::print_answer(book, answer, names, area);
     printed(a, area)
 }
