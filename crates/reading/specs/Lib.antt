@@ -1,7 +1,5 @@
--- The reader of a text (document 02, C-13) as a definition, token by token: what it has read (Part), what it reads (Reader), what is answered and what the areas hold
--- (Answer). What is proved of it:
+-- The reader of a text (document 02, C-13) as a definition, token by token: what it has read (Part), what it reads (Reader). What is proved of it:
 --   ReadingLaws   the accepted texts are exactly the grammar's (`reading-iff`)
---   Answer        each reading is given, where the areas have room (`reading-given`)
 --   RefusalLaws   a text is refused just where the refusal's relation holds (`refusal-iff`), in one way only (`refusal-one`); the relations are in Refusal and Unexpected
 pub mod Part
 pub mod Reader
@@ -14,7 +12,6 @@ pub mod SoundLaws
 pub mod RunLaws
 pub mod CompleteLaws
 pub mod ReadingLaws
-pub mod Answer
 -- Where and why the reader stops.
 pub mod Stop
 pub mod StopLaws
