@@ -1,0 +1,2 @@
+-- Names as a list of bytes.
+pub mod Lists
