@@ -47,7 +47,7 @@ fn number_of(text: &[u8], vars: &[u16], n: usize, at: usize, found: Found) -> us
 }
 
 // Where a piece ends.
-fn end_of(found: Found, at: usize) -> usize
+pub fn end_of(found: Found, at: usize) -> usize
     requires { ⌜ at < 65536 ⌝ }
     ensures { λ r. ⌜ r ≡ endOf at found ⌝ }
 {

@@ -1,0 +1,7 @@
+use Rattle.texts.proofs.Seeking.{heres}
+use borrow.Author.Needs.{needs}
+use Rattle.texts.proofs.places.is_here.Statement.{statement}
+use Rattle.texts.proofs.places.is_here.Tie as tie
+
+pub is-here-spec : {M : Type 1} → statement M
+is-here-spec = tie.close (tie.spec (λ c. search heres) (λ c. search heres) (λ c. search heres) (λ c. search heres))
