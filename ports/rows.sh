@@ -35,8 +35,13 @@ missing() {
     fi
 }
 
-# promise: the bytes of stack that the header promises to be enough.
-promise() { sed -n 's/^#define PITXARGOLE_STACK \([0-9]*\).*/\1/p' include/pitxargole.h; }
+# promise [CRATE]: the bytes of stack that the header promises to be enough; reading and printing have a promise of their own.
+promise() {
+    case ${1:-engine} in
+        office) sed -n 's/^#define PITXARGOLE_TEXT_STACK \([0-9]*\).*/\1/p' include/pitxargole_text.h ;;
+        *) sed -n 's/^#define PITXARGOLE_STACK \([0-9]*\).*/\1/p' include/pitxargole.h ;;
+    esac
+}
 
 # same_object: the object for x86-64 that was made of the module's text is the archive's own, byte by byte, so that nothing was lost on the way.
 same_object() { "$tools/bin/llvm-ar" p target/staticlib/libengine.a engine.o | cmp - target/ports/x86_64/engine.o; }

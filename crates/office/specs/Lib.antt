@@ -1,5 +1,6 @@
--- The numbers that C gets of printing, and what they say.
+-- The numbers that C gets of printing and reading, and what they say.
 pub mod Numbers
 pub mod Figures
+pub mod ReadFigures
 pub mod Once
 pub mod RunAnswers

@@ -1,8 +1,10 @@
--- The number for C of what was printed: "outcome in the lowest eight bits; the next 24 bits hold the place" of a refusal, and the text's bytes otherwise. There are no steps.
+-- The numbers for C of what was printed and of what was read. Of printing: "outcome in the lowest eight bits; the next 24 bits hold the place" of a refusal, and the text's bytes otherwise; there are no steps. Of reading: the place of a refusal, and the book's bytes otherwise;
+-- in the highest 32 bits the names' bytes.
 use Prim.Native.Nat.{ℕ, _+_, _*_, _^_, _<_}
 use lib.Dec.{eqb}
 use Rattle.terms.specs.When.{_⇒_∣_}
 use Rattle.printouts.specs.declared.Printout.{Printout}
+use Rattle.readouts.specs.declared.ReadText.{ReadText}
 
 abbrev pub textField : Printout → ℕ
 textField p = eqb (p .code) 0 ⇒ p .bytes ∣ p .place
@@ -15,3 +17,14 @@ pub record TextNarrow (p : Printout) : Type 0 where
   pub code : p .code < 256
   pub place : p .place < 2 ^ 24
   pub bytes : p .bytes < 2 ^ 24
+
+abbrev pub readField : ReadText → ℕ
+readField r = eqb (r .code) 0 ⇒ r .book ∣ r .place
+
+abbrev pub readNumber : ReadText → ℕ
+readNumber r = r .code + 256 * readField r + 2 ^ 32 * r .names
+
+pub record ReadNarrow (r : ReadText) : Type 0 where
+  pub code : r .code < 256
+  pub place : r .place < 2 ^ 24
+  pub book : r .book < 2 ^ 24

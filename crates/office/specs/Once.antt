@@ -5,7 +5,8 @@ use mathlib.Core.List.{List}
 use Rattle.printouts.specs.declared.Printout.{Printout}
 use Rattle.printouts.specs.Outcome.{printAnswer, printArea, goalAnswer, goalArea}
 use Rattle.printouts.specs.Answer.{foundAnswer, foundArea}
-use Rattle.office.specs.Numbers.{textNumber}
+use Rattle.readouts.specs.Outcome.{readAnswer, readBook, readNames}
+use Rattle.office.specs.Numbers.{textNumber, readNumber}
 
 -- a number and an area that are said
 abbrev Says : Printout → List ℕ → ℕ → List ℕ → Type 0
@@ -24,3 +25,11 @@ module _ (book goal names area : List ℕ) where
 
   pub print-answer-number-once : {n n′ : ℕ} {t t′ : List ℕ} → Says (foundAnswer book goal names area) (foundArea book goal names area) n t → Says (foundAnswer book goal names area) (foundArea book goal names area) n′ t′ → (n ≡ n′) × (t ≡ t′)
   print-answer-number-once = one (foundAnswer book goal names area) (foundArea book goal names area)
+
+-- a number and both areas
+module _ (text books lists : List ℕ) where
+  abbrev SaysRead : ℕ → List ℕ → List ℕ → Type 0
+  SaysRead n b l = (n ≡ readNumber (readAnswer text books lists)) × (b ≡ readBook text books lists) × (l ≡ readNames text books lists)
+
+  pub read-text-number-once : {n n′ : ℕ} {b b′ l l′ : List ℕ} → SaysRead n b l → SaysRead n′ b′ l′ → (n ≡ n′) × (b ≡ b′) × (l ≡ l′)
+  read-text-number-once (p, q, s) (p′, q′, s′) = (p ∙ inv p′, q ∙ inv q′, s ∙ inv s′)

@@ -1,13 +1,16 @@
-// Printing for C: "called from there with numbers and byte areas only". The number has no steps.
+// Reading and printing for C: "called from there with numbers and byte areas only".
 use numbers::pack;
 use printer::print_answer;
 use printer::print_book;
 use printer::print_goal;
 use printouts::Printout;
+use readouts::ReadText;
+use texts::read_text;
 ghost use mathlib.Core.Path.{_≡_};
 ghost use Rattle.printouts.specs.Outcome.{printAnswer, printArea, goalAnswer, goalArea};
 ghost use Rattle.printouts.specs.Answer.{foundAnswer, foundArea};
-ghost use Rattle.office.specs.Numbers.{TextNarrow, textNumber};
+ghost use Rattle.readouts.specs.Outcome.{readAnswer, readBook, readNames};
+ghost use Rattle.office.specs.Numbers.{TextNarrow, textNumber, ReadNarrow, readNumber};
 
 fn text_number(p: Printout) -> u64
     requires { ⌜ TextNarrow p ⌝ }
@@ -51,4 +54,23 @@ pub extern "C" fn pitxargole_print_answer(
     ensures text { λ _. ⌜ now (area .exit) ≡ foundArea (now (book .entry)) (now (answer .entry)) (now (names .entry)) (now (area .entry)) ⌝ }
 {
     text_number(print_answer(book, answer, names, area))
+}
+
+fn read_number(r: ReadText) -> u64
+    requires { ⌜ ReadNarrow r ⌝ }
+    ensures { λ n. ⌜ n ≡ readNumber r ⌝ }
+{
+    if r.code == 0 {
+        return pack(r.code, r.book, r.names);
+    }
+    pack(r.code, r.place, r.names)
+}
+
+#[no_mangle]
+pub extern "C" fn pitxargole_read_text(text: &[u8], book: &mut [u8], names: &mut [u8]) -> u64
+    ensures said { λ n. ⌜ n ≡ readNumber (readAnswer (now (text .entry)) (now (book .entry)) (now (names .entry))) ⌝ }
+    ensures book { λ _. ⌜ now (book .exit) ≡ readBook (now (text .entry)) (now (book .entry)) (now (names .entry)) ⌝ }
+    ensures names { λ _. ⌜ now (names .exit) ≡ readNames (now (text .entry)) (now (book .entry)) (now (names .entry)) ⌝ }
+{
+    read_number(read_text(text, book, names))
 }
