@@ -10,3 +10,4 @@ pub mod ClashLaws
 pub mod Outcome
 pub mod OutcomeLaws
 pub mod Good
+pub mod Cases
