@@ -5,7 +5,7 @@ use mathlib.Core.List.{List, [], _∷_, _++_}
 use lib.ListN.{length}
 use Rattle.terms.specs.When.{_⇒_∣_}
 use Rattle.format.specs.declared.Record.the-variants.{Formula}
-use Rattle.format.specs.Arities.{Use, use-of, Used, OneArity, Memory, nothing-met, meet, keeps}
+use Rattle.format.specs.Arities.{Use, Used, OneArity, Memory, nothing-met, meet, keeps}
 use Rattle.readouts.specs.declared.Arities.{Arities}
 use Rattle.readouts.specs.declared.Arities.the-variants.{One, Two}
 

@@ -1,14 +1,12 @@
 -- What is computed of arities is what is told.
 use Prim.Native.Nat.{ℕ, zero, suc, _+_, _<_}
 use mathlib.Core.Path.{_≡_, refl, sym as inv, ap, ap₂, _∙_, subst}
-use mathlib.Core.Bool.{true, false}
-use mathlib.Core.Logic.{inl, inr}
+use mathlib.Core.Logic.{inl}
 use mathlib.Core.List.{List, [], _∷_, _++_, map, append-assoc, append-nil}
 use native.Mathlib.Omega.{arith}
 use native.Mathlib.Decide.{decLt}
 use lib.ListN.{length, length-append}
 use Rattle.terms.specs.Cases.{cases}
-use Rattle.terms.specs.When.{_⇒_∣_}
 use Rattle.terms.specs.Node.{constant, compound, predicate, var, sym, Expr}
 use Rattle.words.specs.Flat.{flat}
 use Rattle.grammar.specs.Syntax.{Terms, none, variable-then, name-then, Rule}
@@ -16,8 +14,8 @@ use Rattle.grammar.specs.Syntax as Syntax
 use Rattle.grammar.specs.Names.{Sort, Spot, symbol-spot, count, called, spots-then, formula-spots, with-variable, variables-after, numbered, numbered-all, clause, names, book}
 use Rattle.format.specs.declared.Record.{Record}
 use Rattle.format.specs.declared.Record.the-variants.{Formula}
-use Rattle.format.specs.Arities.{Use, use-of, nodeUses, goalUses, bookUses, recordUses, Used, OneArity, AnotherArity, Memory, nothing-met, meet, meets, recall, keeps}
-use Rattle.format.specs.ArityLaws.{recall-append, recall-record, used-left, used-right, arity-iff, one-more}
+use Rattle.format.specs.Arities.{Use, use-of, nodeUses, goalUses, bookUses, Used, OneArity, Memory, nothing-met, recall, keeps}
+use Rattle.format.specs.ArityLaws.{recall-append, used-left, used-right, arity-iff, one-more}
 use Rattle.format.proofs.Meaning.{one-none}
 use Rattle.readouts.specs.declared.Arities.{Arities}
 use Rattle.readouts.specs.declared.Arities.the-variants.{One, Two}

@@ -1,23 +1,23 @@
 -- A book that is read is good, and its names are a name list; and the codes and places of refusals.
 use Prim.Native.Nat.{ℕ, _+_, _≤_, _<_}
-use mathlib.Core.Path.{_≡_, refl, sym as inv, ap, _∙_, subst}
-use mathlib.Core.List.{List, [], _∷_, _++_}
+use mathlib.Core.Path.{_≡_, sym as inv, ap, _∙_, subst}
+use mathlib.Core.List.{List, _++_}
 use native.Mathlib.Omega.{arith}
 use lib.ListN.{length, take, drop, length-append}
 use lib.Seq.{take-append-seam}
 use Rattle.search.specs.Next as Next
-use Rattle.format.specs.Format.{GoodBook, encodeBook}
+use Rattle.format.specs.Format.{encodeBook}
 use Rattle.format.specs.Reading.{bookVerdict}
 use Rattle.format.specs.Arities.{bookUses, OneArity}
 use Rattle.format.proofs.Meaning.{good}
-use Rattle.grammar.specs.Token.{Token, name, variable, opening, closing, comma, arrow, stop, bytes, spelling}
+use Rattle.grammar.specs.Token.{Token, name, variable, opening, closing, comma, arrow, stop, bytes}
 use Rattle.grammar.specs.FrontLaws.{Half}
 use Rattle.grammar.specs.Names.{names}
 use Rattle.grammar.specs.Reading.{Reading}
 use Rattle.grammar.specs.GoodLaws.{reading-checked}
 use Rattle.reading.specs.Part.{State}
-use Rattle.reading.specs.Refusal.{Before, Reached, Refusal, long-text, unexpected-byte, unexpected-second, longest-name, out-of-range, size-passed, long-book}
-use Rattle.namelist.specs.List.{Entry, IsList}
+use Rattle.reading.specs.Refusal.{Before, Refusal, long-text, unexpected-byte, unexpected-second, longest-name, out-of-range, size-passed, long-book}
+use Rattle.namelist.specs.List.{IsList}
 use Rattle.printouts.specs.OwnLaws.{own}
 use Rattle.printouts.specs.Again.{read-list}
 use Rattle.readouts.specs.declared.ReadText.{ReadText}

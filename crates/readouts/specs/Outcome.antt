@@ -1,6 +1,5 @@
 -- What reading a text answers, and what the two lent areas hold afterwards (document 02, C-13 and C-18).
 use Prim.Native.Nat.{ℕ, _≤_, _<_}
-use mathlib.Core.Path.{_≡_}
 use mathlib.Core.Bool.{Bool, _&&_}
 use mathlib.Core.Logic.{_⊎_}
 use mathlib.Core.List.{List, _++_}

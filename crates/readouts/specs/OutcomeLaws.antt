@@ -1,12 +1,12 @@
 -- What is computed is what the document says, and there is no other outcome.
 use Prim.Native.Nat.{ℕ, _≤_, _<_}
-use mathlib.Core.Path.{_≡_, refl, sym as inv, ap, ap₂, _∙_, subst}
+use mathlib.Core.Path.{_≡_, refl, sym as inv, subst}
 use mathlib.Core.Logic.{_⊎_, inl, inr}
-use mathlib.Core.Bool.{Bool, true, false, _&&_}
-use mathlib.Core.List.{List, _++_}
+use mathlib.Core.Bool.{true, false}
+use mathlib.Core.List.{List}
 use native.Mathlib.Omega.{arith}
 use borrow.Author.Tests.{leb-true, leb-false, le-leb, lt-leb}
-use lib.ListN.{length, drop}
+use lib.ListN.{length}
 use lib.Dec.{leb}
 use Rattle.terms.specs.Cases.{cases}
 use Rattle.search.specs.Next as Next
@@ -17,7 +17,6 @@ use Rattle.grammar.specs.Names.{book, name-list}
 use Rattle.grammar.specs.Reading.{Reading}
 use Rattle.reading.specs.Reader as Reader
 use Rattle.reading.specs.ReadingLaws.{reading-sound, reading-complete}
-use Rattle.reading.specs.Refusal.{Refusal}
 use Rattle.reading.specs.RefusalLaws.{refusal-iff}
 use Rattle.readouts.specs.declared.ReadText.{ReadText}
 use Rattle.readouts.specs.declared.Arities.{Arities}

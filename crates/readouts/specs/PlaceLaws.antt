@@ -5,7 +5,7 @@ use mathlib.Core.List.{List, [], _∷_, _++_, append-assoc}
 use native.Mathlib.Omega.{arith}
 use lib.ListN.{length, length-append}
 use Rattle.grammar.specs.Token.{Token, name, variable, opening, closing, comma, arrow, stop, Piece, token, blank, comment, spelt, bytes, Stands, tokens}
-use Rattle.grammar.specs.TokenLaws.{Stays, front-is, fits-stays, spelt-long}
+use Rattle.grammar.specs.TokenLaws.{front-is, fits-stays, spelt-long}
 use Rattle.grammar.specs.Front.{pieces-of}
 use Rattle.grammar.specs.Syntax.{Terms, none, variable-then, name-then, Formula, Rule, Turn, first, later, arguments-then, formula-then, body-then}
 use Rattle.reading.specs.Stop.{Spaced-to}

@@ -5,7 +5,7 @@ use mathlib.Core.List.{List, [], _∷_, _++_}
 use native.Mathlib.Omega.{arith}
 use native.Mathlib.Decide.{decLt}
 use lib.ListN.{length}
-use Rattle.grammar.specs.Token.{Token, name, variable, opening, closing, comma, arrow, stop, Piece, token, blank, comment, bytes, Stands, Fits, Spaced, tokens}
+use Rattle.grammar.specs.Token.{Token, name, variable, opening, comma, arrow, Piece, token, blank, comment, bytes, Stands, Fits, Spaced, tokens}
 use Rattle.grammar.specs.TokenLaws.{fits-stays}
 use Rattle.grammar.specs.Syntax.{Terms, none, variable-then, name-then, Formula, Rule, Turn, first, later, arguments-then, formula-then, body-then, written}
 use Rattle.grammar.specs.Reading.{Writes}

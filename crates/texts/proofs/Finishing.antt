@@ -1,12 +1,11 @@
 -- From what the pass over a text ends with to what is answered.
-use Prim.Native.Nat.{ℕ, zero, suc, _+_, _-_, _*_, _≤_, _<_}
+use Prim.Native.Nat.{ℕ, suc, _+_, _-_, _≤_, _<_}
 use mathlib.Core.Path.{_≡_, refl, sym as inv, ap, ap₂, _∙_, subst}
-use mathlib.Core.Bool.{true, false}
 use mathlib.Core.Logic.{inl, inr}
 use mathlib.Core.List.{List, [], _∷_, _++_}
 use native.Mathlib.Omega.{arith}
 use borrow.Author.Tests.{lt-ltb, le-ltb}
-use lib.ListN.{length, getD, set, take, drop, replicate, length-replicate, length-set}
+use lib.ListN.{length, set, take, drop, replicate, length-replicate, length-set}
 use lib.Seq.{take-suc-set, take-length}
 use lib.Dec.{ltb}
 use Rattle.terms.specs.Cases.{cases}
@@ -15,8 +14,7 @@ use Rattle.format.specs.Format.{GoodBook, encodeBook}
 use Rattle.format.specs.Decode.{bookOf}
 use Rattle.format.specs.Arities.{bookUses, Memory}
 use Rattle.format.proofs.Decoding.{bookOf-image}
-use Rattle.grammar.specs.Names as Names
-use Rattle.grammar.specs.Names.{Sort, book, names, name-list}
+use Rattle.grammar.specs.Names.{book, names, name-list}
 use Rattle.grammar.specs.GoodLaws.{sized-good}
 use Rattle.grammar.specs.Syntax.{Rule}
 use Rattle.reading.specs.Part.{formulas, between, state, rules-of}
@@ -25,18 +23,18 @@ use Rattle.reading.specs.Reader.{Outcome, fitting, reading}
 use Rattle.reading.specs.ReadingLaws.{reading-sound}
 use Rattle.reading.specs.Refusal.{refusal}
 use Rattle.nametable.specs.Table.{word}
-use Rattle.symbols.specs.Sections.{part, Holds}
+use Rattle.symbols.specs.Sections.{Holds}
 use Rattle.drafts.specs.declared.Draft.{Draft}
 use Rattle.drafts.specs.declared.Kind.{Kind}
 use Rattle.drafts.specs.declared.Kind.the-variants.{Constant, Compound, Predicate}
 use Rattle.drafts.specs.Drafted.{sortOf, sectionOf}
 use Rattle.reader.specs.declared.walking.Ended.{Ended}
 use Rattle.reader.specs.declared.walking.Ended.the-variants.{Refused, Read}
-use Rattle.reader.specs.Kept.{tablesOf, Kept}
+use Rattle.reader.specs.Kept.{Kept}
 use Rattle.reader.specs.Walking.{whole, Rules, Ends, Empty}
 use Rattle.reader.specs.Book.{tables-are}
 use Rattle.reader.specs.Outcome.{Holds-book, ends-refused, ends-long, ends-read}
-use Rattle.reader.specs.Start.{Zeros, Fresh, fresh-empty}
+use Rattle.reader.specs.Start.{Zeros, fresh-empty}
 use Rattle.records.proofs.Tables.{zeros-met}
 use Rattle.storage.specs.Storage.{Written}
 use Rattle.readouts.specs.declared.ReadText.{ReadText}
@@ -45,7 +43,7 @@ use Rattle.readouts.specs.declared.Arities.the-variants.{One, Two}
 use Rattle.readouts.specs.Place.{formula-place}
 use Rattle.readouts.specs.Clash.{arities}
 use Rattle.readouts.specs.Outcome as Outcome
-use Rattle.readouts.specs.Outcome.{done, filled, readAnswer, readBook, readNames}
+use Rattle.readouts.specs.Outcome.{done, filled}
 use Rattle.readouts.specs.OutcomeLaws.{Is, is-refused, is-two, is-no-room, is-read, room-is, full-is}
 use Rattle.readouts.specs.Good.{refusal-coded, code-low, refusal-low}
 use Rattle.texts.specs.Finished.{Came, Named, Finished, Kept-one, listBytes, listSize}

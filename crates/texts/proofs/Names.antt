@@ -1,15 +1,14 @@
 -- The names of a text as they stand in the table, and their list.
-use Prim.Native.Nat.{ℕ, zero, suc, _+_, _-_, _*_, _/_, _%_, _≤_, _<_}
+use Prim.Native.Nat.{ℕ, zero, suc, _+_, _-_, _/_, _%_, _≤_, _<_}
 use mathlib.Core.Path.{_≡_, refl, sym as inv, ap, ap₂, _∙_, subst}
 use mathlib.Core.List.{List, [], _∷_, _++_, append-nil}
 use native.Mathlib.Omega.{arith}
 use lib.ListN.{length, getD, take, drop, length-drop, length-append}
 use lib.Seq.{length-take-le, take-take}
 use borrow.Rule.Slice.PartMut.{putMid}
-use Rattle.grammar.specs.Names as Names
 use Rattle.grammar.specs.Names.{Sort, Constant, Compound, Predicate, kind, entries, names, name-list}
 use Rattle.grammar.specs.Syntax.{Rule}
-use Rattle.nametable.specs.Table.{word, Entries}
+use Rattle.nametable.specs.Table.{word}
 use Rattle.symbols.specs.Sections.{part, Holds}
 use Rattle.symbols.specs.declared.Section.{Section}
 use Rattle.drafts.specs.declared.Draft.{Draft}

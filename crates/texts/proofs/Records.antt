@@ -1,27 +1,26 @@
 -- One predicate, one arity, record by record.
-use Prim.Native.Nat.{ℕ, zero, suc, _+_, _-_, _≤_, _<_}
+use Prim.Native.Nat.{ℕ, suc, _+_, _-_, _≤_, _<_}
 use mathlib.Core.Path.{_≡_, refl, sym as inv, ap, ap₂, _∙_, subst}
 use mathlib.Core.Bool.{Bool, true, false, not, true≢false, _||_}
 use mathlib.Core.List.{List, [], _∷_, _++_, append-nil}
 use native.Mathlib.Omega.{arith}
 use borrow.Author.Tests.{eq-eqb, ne-eqb, leb-true, not-true, not-false}
-use lib.ListN.{length, getD, set, drop, length-drop, replicate}
+use lib.ListN.{length, getD, set, drop, length-drop}
 use lib.Dec.{eqb}
 use Rattle.terms.specs.When.{_⇒_∣_}
 use Rattle.format.specs.declared.State.{State}
 use Rattle.format.specs.declared.Form.the-variants.{Book}
 use Rattle.format.specs.declared.Record.{Record}
 use Rattle.format.specs.declared.Record.the-variants.{Variable, Constant, Compound, Formula, Clause, Goal, End}
-use Rattle.format.specs.Format.{recordKind, encodeRecord, encode, bookRecords, encodeBook, GoodBook}
+use Rattle.format.specs.Format.{recordKind, encode, bookRecords, encodeBook, GoodBook}
 use Rattle.format.specs.Reading.{bodyLength, recordAt, inRange, after, start}
 use Rattle.format.specs.Decode.{bookOf}
 use Rattle.format.specs.Faulty.{Complete}
 use Rattle.format.specs.Arities.{Use, recordUses, usesOf, bookUses, Memory, nothing-met, meet, meets, keeps, recalled}
 use Rattle.format.specs.ArityLaws.{book-uses, recalled-set}
-use Rattle.format.proofs.Encoded.{Encoded, encoded}
+use Rattle.format.proofs.Encoded.{encoded}
 use Rattle.format.proofs.Beginnings.{Reads, beginning-reads}
 use Rattle.format.proofs.GoodSizes.{clauses-formed}
-use Rattle.readouts.specs.declared.Arities.{Arities}
 use Rattle.readouts.specs.declared.Arities.the-variants.{One, Two}
 use Rattle.readouts.specs.Clash.{arities-from, arities}
 use Rattle.texts.specs.Remembers.{Remembers}

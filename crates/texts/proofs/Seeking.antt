@@ -1,6 +1,6 @@
 -- The search for a formula's place.
 use Prim.Native.Nat.{ℕ, zero, suc, _+_, _-_, _≤_, _<_}
-use mathlib.Core.Path.{_≡_, refl, sym as inv, ap, ap₂, _∙_, subst}
+use mathlib.Core.Path.{_≡_, refl, sym as inv, ap, ap₂, _∙_}
 use mathlib.Core.Bool.{Bool, true, false, true≢false}
 use mathlib.Core.List.{List, [], _∷_}
 use native.Mathlib.Omega.{arith}

@@ -2,7 +2,7 @@ use mathlib.Core.Path.{_≡_}
 use lib.ListN.{length}
 use Prim.Native.Nat.{_-_, _≤_}
 use native.Mathlib.Omega.{arith}
-use Rattle.listing.proofs.Listed.{Listing, listing-start, listing-length, listing-inside, entry-inside, entry-room, entry-counted, listing-next, listing-end}
+use Rattle.listing.proofs.Listed.{Listing, listing-start, listing-inside, entry-inside, entry-room, entry-counted, listing-next, listing-end}
 use borrow.Author.Needs.{needs}
 use Rattle.listing.proofs.put_names.Statement.{statement}
 use Rattle.listing.proofs.put_names.Tie as tie

@@ -1,5 +1,3 @@
-use native.Mathlib.Omega.{arith}
-use mathlib.Core.Path.{refl}
 use Rattle.texts.proofs.Finishing.{long-is, end-start, end-inside, stop-inside, came-finished}
 use borrow.Author.Needs.{needs}
 use Rattle.texts.proofs.finish.Statement.{statement}

@@ -1,5 +1,4 @@
 use Rattle.texts.proofs.Seeking.{heres}
-use borrow.Author.Needs.{needs}
 use Rattle.texts.proofs.places.is_here.Statement.{statement}
 use Rattle.texts.proofs.places.is_here.Tie as tie
 
