@@ -1,10 +1,13 @@
 // What must come out: a line for each item of a stream.
+use crate::again;
 use crate::entries::{Answer, apply, pick, run_in, step};
 use crate::flat;
 use crate::item::{Case, Entry, Item};
 use crate::period;
 use crate::print;
 use crate::read::{self, Profile, Refusal};
+use crate::scan;
+use crate::text;
 
 /// The sum that `try_entries` makes of bytes.
 pub fn sum(bytes: &[u8]) -> u64 {
@@ -64,19 +67,29 @@ fn of_run(entry: Entry, case: &Case) -> Result<String, String> {
 }
 
 /// Code, place and bytes of what is printed, and what the area holds then.
-fn printed(entry: Entry, case: &Case) -> String {
+fn printed(entry: Entry, case: &Case) -> Result<String, String> {
     let mut area = case.area.bytes();
-    let (goal, list) = case.query.split_at(case.query.len().min(case.number as usize));
+    let (goal, list) = case.with_list();
     let text = match entry {
-        Entry::PrintBook => print::book_text(&case.book, &case.query),
-        Entry::PrintGoal => print::goal_text(&case.book, goal, list),
-        _ => print::answer_text(&case.book, goal, list),
+        Entry::PrintBook => again::book_printed(print::book_text(&case.book, &case.query))?,
+        Entry::PrintGoal => again::goal_printed(&case.book, goal, list, print::goal_text(&case.book, goal, list))?,
+        _ => again::answer_printed(&case.book, list, print::answer_text(&case.book, goal, list))?,
     };
     let numbers = match print::laid(text, &mut area) {
         Ok(bytes) => format!("0 0 {bytes}"),
         Err(refusal) => format!("{} {} 0", refusal.code, refusal.place),
     };
-    format!("{numbers} {}", sum(&area))
+    Ok(format!("{numbers} {}", sum(&area)))
+}
+
+/// Code, place, and the bytes of the book that is read and of its names, and what the two areas hold then.
+fn read(case: &Case) -> Result<String, String> {
+    let (mut area, mut names) = (case.area.bytes(), case.answer.bytes());
+    let numbers = match text::laid(again::rules_read(text::rules(&case.book))?, &mut area, &mut names) {
+        Ok((bytes, of_names)) => format!("0 0 {bytes} {of_names}"),
+        Err(scan::Refusal(code, place)) => format!("{code} {place} 0 0"),
+    };
+    Ok(format!("{numbers} {} {}", sum(&area), sum(&names)))
 }
 
 /// The numbers of an entry that is lent an area, and what the area holds then.
@@ -114,7 +127,8 @@ pub fn line(item: &Item) -> Result<String, String> {
         Entry::CheckFlatBook => Ok(flat::line(&item.case.book)),
         Entry::FlatBookForC => Ok(flat::number(&item.case.book).to_string()),
         entry @ (Entry::Pick | Entry::PickForC) => Ok(picked(entry, pick(&item.case.book, &item.case.query))),
-        entry @ (Entry::PrintBook | Entry::PrintGoal | Entry::PrintAnswer) => Ok(printed(entry, &item.case)),
+        entry @ (Entry::PrintBook | Entry::PrintGoal | Entry::PrintAnswer) => printed(entry, &item.case),
+        Entry::ReadText => read(&item.case),
         entry @ (Entry::Run | Entry::RunForC | Entry::FlatRun | Entry::FlatRunForC) => of_run(entry, &item.case),
         entry => Ok(lent(entry, &item.case)),
     }

@@ -13,6 +13,13 @@ pub struct Case {
     pub answer: Area,
 }
 
+impl Case {
+    /// A goal or a text, and the list of names behind it.
+    pub fn with_list(&self) -> (&[u8], &[u8]) {
+        self.query.split_at(self.query.len().min(self.number as usize))
+    }
+}
+
 /// An area's length and what it holds before the call: its first byte, and what each byte has more than the one before it.
 #[derive(Clone, Copy)]
 pub struct Area {
@@ -63,23 +70,24 @@ pub enum Entry {
     PrintBook,
     PrintGoal,
     PrintAnswer,
+    ReadText,
 }
 
 use Entry::*;
 pub const PLAIN: [Entry; 9] = [CheckBook, CheckQuery, Step, Run, RunForC, Pick, Apply, PickForC, ApplyForC];
 pub const FLAT: [Entry; 8] =
     [CheckFlatBook, CheckFlatQuery, FlatStep, FlatRun, FlatBookForC, FlatQueryForC, FlatStepForC, FlatRunForC];
-pub const PRINTS: [Entry; 3] = [PrintBook, PrintGoal, PrintAnswer];
+pub const TEXTS: [Entry; 4] = [PrintBook, PrintGoal, PrintAnswer, ReadText];
 
 pub fn entries() -> impl Iterator<Item = Entry> {
-    PLAIN.into_iter().chain(FLAT).chain(PRINTS)
+    PLAIN.into_iter().chain(FLAT).chain(TEXTS)
 }
 
 impl Entry {
     /// How many areas it is lent: a run has an answer area behind its goal area.
     pub fn areas(self) -> usize {
         match self {
-            Run | RunForC | FlatRun | FlatRunForC => 2,
+            Run | RunForC | FlatRun | FlatRunForC | ReadText => 2,
             Step | Apply | ApplyForC | FlatStep | FlatStepForC | PrintBook | PrintGoal | PrintAnswer => 1,
             _ => 0,
         }
@@ -88,7 +96,7 @@ impl Entry {
 
 /// A check of a book has no use for the query, nor for number and areas; that of a query and a pick have none for number and areas; the others likewise.
 /// Where a book is printed, its list of names stands in the query's place; where a goal or an answer is, the goal
-/// and then the list, and the number is the goal's length.
+/// and then the list, and the number is the goal's length. A text to be read as rules stands in the book's place, and the areas are for the book and for its names.
 pub struct Item {
     pub entry: Entry,
     pub case: Case,

@@ -10,6 +10,7 @@
 //   second read              reads rules as text (document 02, C-13), and prints code, place, bytes of the book and of the names, and a sum over each
 //   second pack N              reads a book and a query in document 01's notation, and writes them with budget N as `trace` reads them
 //   second say N               reads the same, and prints what `trace` prints, the answer in the notation, and behind `if` the goal that is left
+mod again;
 mod answers;
 mod arities;
 mod build;
@@ -22,6 +23,7 @@ mod flat;
 mod growing;
 mod image;
 mod item;
+mod limits;
 mod list;
 mod namelist;
 mod notation;
@@ -34,12 +36,15 @@ mod printed;
 mod prints;
 mod random;
 mod read;
+mod readings;
 mod reason;
 mod rooms;
+mod scan;
 mod stream;
 mod stuck;
 mod table;
 mod text;
+mod texts;
 mod tree;
 mod unify;
 mod unknown;
@@ -85,7 +90,7 @@ fn show(stream: &[u8], n: &str) -> Done {
 }
 
 fn table() -> Done {
-    let wrong = [table::all_wrong(), worked::all_wrong(), printed::all_wrong()].concat();
+    let wrong = [table::all_wrong(), worked::all_wrong(), printed::all_wrong(), readings::all_wrong()].concat();
     if wrong.is_empty() { Ok(()) } else { Err(wrong.join("\n")) }
 }
 
@@ -130,11 +135,11 @@ fn say(text: &str, budget: u32) -> Result<String, String> {
 }
 
 fn text(bytes: &[u8]) -> String {
-    match text::read(bytes) {
+    match text::rules(bytes) {
         Ok(read) => {
-            format!("0 0 {} {} {} {}", read.book.len(), read.names.len(), answers::sum(&read.book), answers::sum(&read.names))
+            format!("0 0 {} {} {} {}", read.image.len(), read.names.len(), answers::sum(&read.image), answers::sum(&read.names))
         }
-        Err(text::Refusal(code, place)) => format!("{code} {place} 0 0 {} {}", answers::sum(&[]), answers::sum(&[])),
+        Err(scan::Refusal(code, place)) => format!("{code} {place} 0 0 {} {}", answers::sum(&[]), answers::sum(&[])),
     }
 }
 

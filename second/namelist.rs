@@ -1,5 +1,5 @@
 // Lists of names (document 02, C-13): "record kind, number, length in one byte, name; entries rise by kind, then number".
-use std::collections::{BTreeMap, HashSet};
+use std::collections::{BTreeMap, HashMap};
 
 /// A kind and a number.
 pub type Symbol = (u8, u16);
@@ -8,9 +8,12 @@ pub const CONSTANT: u8 = 2;
 pub const COMPOUND: u8 = 3;
 pub const PREDICATE: u8 = 4;
 
-/// The names that a list gives.
+/// The names that a list gives, and the numbers by them.
 #[derive(Clone, Default)]
-pub struct Names(BTreeMap<Symbol, Vec<u8>>);
+pub struct Names {
+    names: BTreeMap<Symbol, Vec<u8>>,
+    numbers: HashMap<(u8, Vec<u8>), u16>,
+}
 
 /// "A small ASCII letter, then letters, digits or underscores", "at most 32 bytes".
 fn is_name(bytes: &[u8]) -> bool {
@@ -36,20 +39,45 @@ pub fn written<'a>(entries: impl IntoIterator<Item = (&'a Symbol, &'a Vec<u8>)>)
 impl Names {
     /// Nothing where the bytes are no such list, or "a name shared by two symbols of one sort" (C-14) is in it.
     pub fn read(list: &[u8]) -> Option<Names> {
-        let (mut names, mut used, mut left) = (BTreeMap::new(), HashSet::new(), list);
+        let (mut all, mut left) = (Names::default(), list);
         while !left.is_empty() {
             let (symbol, name, behind) = entry(left)?;
-            let rises = names.last_key_value().is_none_or(|(before, _)| *before < symbol);
-            if !rises || !used.insert((symbol.0, name)) {
+            let rises = all.names.last_key_value().is_none_or(|(before, _)| *before < symbol);
+            if !rises || all.numbers.contains_key(&(symbol.0, name.to_vec())) {
                 return None;
             }
-            names.insert(symbol, name.to_vec());
+            all.add(symbol, name);
             left = behind;
         }
-        Some(Names(names))
+        Some(all)
+    }
+
+    fn add(&mut self, symbol: Symbol, name: &[u8]) {
+        self.names.insert(symbol, name.to_vec());
+        self.numbers.insert((symbol.0, name.to_vec()), symbol.1);
     }
 
     pub fn of(&self, kind: u8, number: u16) -> Option<&[u8]> {
-        self.0.get(&(kind, number)).map(Vec::as_slice)
+        self.names.get(&(kind, number)).map(Vec::as_slice)
+    }
+
+    /// The name's number; a new name gets the one behind the greatest of its sort.
+    pub fn number(&mut self, kind: u8, name: &[u8]) -> u16 {
+        if let Some(number) = self.numbers.get(&(kind, name.to_vec())) {
+            return *number;
+        }
+        let last = self.names.range((kind, 0)..=(kind, u16::MAX)).next_back();
+        let next = last.map_or(0, |((_, number), _)| number + 1);
+        self.add((kind, next), name);
+        next
+    }
+
+    /// Each new name of a query, 4,096 of a sort at most, has a number of two bytes.
+    pub fn has_room(&self) -> bool {
+        self.names.keys().all(|(_, number)| *number < 61439)
+    }
+
+    pub fn list(&self) -> Vec<u8> {
+        written(&self.names)
     }
 }

@@ -29,11 +29,16 @@ fn word(word: &str) -> Vec<u8> {
     written([(&(kind, symbol[1..].parse().expect("a number")), &name.as_bytes().to_vec())])
 }
 
+/// The list that is written as words.
+pub fn entries(words: &str) -> Vec<u8> {
+    words.split_whitespace().flat_map(word).collect()
+}
+
 fn row(line: &'static str) -> Row {
     let parts: Vec<&str> = line.split('|').map(str::trim).collect();
     let (rules, query) = parts[0].split_once("?-").map_or((parts[0], None), |(rules, query)| (rules, Some(query)));
     let (book, goal) = table::texts(rules, query.unwrap_or(""));
-    Row { book, goal: query.map(|_| goal), list: parts[1].split_whitespace().flat_map(word).collect(), result: parts[2] }
+    Row { book, goal: query.map(|_| goal), list: entries(parts[1]), result: parts[2] }
 }
 
 fn rows() -> impl Iterator<Item = Row> {

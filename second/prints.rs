@@ -42,7 +42,7 @@ fn symbols(book: &[u8], goal: &[u8]) -> BTreeSet<Symbol> {
 }
 
 /// A name for a number, no other number's, of at least so many bytes.
-fn name(number: u32, length: usize) -> Vec<u8> {
+pub fn name(number: u32, length: usize) -> Vec<u8> {
     let digits = b"abcdefghijklmnopqrstuvwxyzABCDEFGHIJKLMNOPQRSTUVWXYZ_0123456789";
     let mut name = vec![digits[(number % 26) as usize]];
     let mut left = number / 26;

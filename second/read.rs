@@ -152,7 +152,7 @@ pub fn book(profile: Profile, bytes: &[u8]) -> Result<Vec<Clause>, Refusal> {
 }
 
 /// "In heads or bodies".
-fn used(clauses: &[Clause]) -> Arities {
+pub fn used(clauses: &[Clause]) -> Arities {
     let formulas = clauses.iter().flat_map(|clause| [&clause.head].into_iter().chain(&clause.body));
     formulas.map(|f| (f.predicate, f.arguments.len())).collect()
 }

@@ -8,13 +8,16 @@ use crate::entries::run;
 use crate::flat;
 use crate::growing;
 use crate::item::{Area, Case, Entry, FLAT, Item, PLAIN};
+use crate::limits;
 use crate::list::{self, Line};
 use crate::printed;
 use crate::prints;
 use crate::read::{self, Profile};
+use crate::readings;
 use crate::rooms;
 use crate::stuck;
 use crate::table;
+use crate::texts;
 use crate::unknown;
 use crate::worked;
 use std::collections::HashSet;
@@ -163,6 +166,7 @@ fn random_items(lines: &[Line], dice: &mut Dice) -> Vec<Item> {
         2 => in_two(&case, dice),
         3..5 => vec![Item { entry: FLAT[dice.below(8) as usize], case: flat::made(case, dice) }],
         5..7 => vec![prints::made(case, dice)],
+        7..9 => vec![texts::made(dice)],
         _ => vec![Item { entry: random_entry(dice), case }],
     }
 }
@@ -182,6 +186,8 @@ pub fn long(seed: u64, count: usize) -> Vec<Item> {
     let small = list::cases(list::SMALL, &mut dice);
     items.extend(at_flat_entries(small, &mut dice));
     items.extend(printed::items(&mut dice));
+    items.extend(readings::items(&mut dice));
+    items.extend(limits::items(&mut dice));
     items.extend((65530..65543).flat_map(|bytes| prints::long(bytes, &mut dice)));
     let lines = list::lines(list::RANDOM);
     while items.len() < count {
@@ -220,6 +226,7 @@ pub fn short() -> Vec<Item> {
     let flat = [table::cases(&mut dice), worked::cases(&mut dice)].concat();
     items.extend(at_flat_entries(flat, &mut dice).into_iter().filter(is_short));
     items.extend(printed::items(&mut dice));
+    items.extend(readings::items(&mut dice).into_iter().filter(is_short));
     let lines = list::lines(list::RANDOM);
     let count = items.len() + 300;
     while items.len() < count {

@@ -1,239 +1,234 @@
-// Rules written as text (document 02, C-13): read by descent, formula by formula and term by term, into the book's bytes and the list
-// of names. Written from the documents, apart from the reader's definition.
+// Rules and queries written as text (document 02, C-13): read by descent, formula by formula and term by term, into bytes and the list of names. Written from the
+// documents, apart from the reader's definition.
+use crate::namelist::{COMPOUND, CONSTANT, Names, PREDICATE};
+use crate::read::{self, Profile};
+use crate::scan::{Read, Refusal, Scan, starts_variable};
 use std::collections::HashMap;
 
-/// A code and a place.
+/// The bytes of a book or of a query, and those of the names.
 #[derive(Debug, PartialEq)]
-pub struct Refusal(pub u8, pub usize);
-
-type Read<T> = Result<T, Refusal>;
-
-/// The bytes of a book and of its names.
-#[derive(Debug, PartialEq)]
-pub struct Book {
-    pub book: Vec<u8>,
+pub struct Texts {
+    pub image: Vec<u8>,
     pub names: Vec<u8>,
 }
 
-/// The names of one sort, by number.
-#[derive(Default)]
-struct Sort(Vec<Vec<u8>>, HashMap<Vec<u8>, usize>);
-
-impl Sort {
-    fn number(&mut self, name: &[u8]) -> usize {
-        *self.1.entry(name.to_vec()).or_insert_with(|| {
-            self.0.push(name.to_vec());
-            self.0.len() - 1
-        })
-    }
+/// What the codes of rules and of a query differ in.
+struct Limits {
+    add: u8,
+    formulas: usize,
+    nodes: usize,
+    variables: usize,
 }
 
-/// What is counted in one clause.
+const IN_CLAUSE: Limits = Limits { add: 0, formulas: 16, nodes: 256, variables: 64 };
+const IN_QUERY: Limits = Limits { add: 10, formulas: 512, nodes: 4096, variables: usize::MAX };
+
+/// What is counted in one clause, or in the query.
 #[derive(Default)]
-struct Clause {
+struct Counts {
     nodes: usize,
     variables: usize,
     named: HashMap<Vec<u8>, usize>,
 }
 
 struct Text<'a> {
-    bytes: &'a [u8],
-    at: usize,
-    sorts: [Sort; 3],
-    clause: Clause,
+    scan: Scan<'a>,
+    limits: Limits,
+    names: Names,
+    counts: Counts,
+    /// The arity that each predicate was met with, and where one was met with another.
+    arities: HashMap<u16, usize>,
+    other_arity: Option<usize>,
 }
 
-fn in_word(b: u8) -> bool {
-    b.is_ascii_alphanumeric() || b == b'_'
+fn record(kind: u8, number: u16) -> Vec<u8> {
+    [&[kind][..], &number.to_be_bytes()].concat()
 }
 
-fn starts_variable(b: u8) -> bool {
-    b.is_ascii_uppercase() || b == b'_'
-}
-
-fn is_blank(b: u8) -> bool {
-    matches!(b, b' ' | b'\t' | b'\n' | b'\r')
-}
-
-fn record(kind: u8, number: usize) -> Vec<u8> {
-    vec![kind, (number >> 8) as u8, number as u8]
-}
-
-impl Text<'_> {
-    fn peek(&self) -> Option<u8> {
-        self.bytes.get(self.at).copied()
+impl<'a> Text<'a> {
+    fn new(bytes: &'a [u8], limits: Limits, names: Names, arities: HashMap<u16, usize>) -> Self {
+        Text { scan: Scan { bytes, at: 0 }, limits, names, counts: Counts::default(), arities, other_arity: None }
     }
 
-    fn unexpected<T>(&self) -> Read<T> {
-        Err(Refusal(41, self.at))
-    }
-
-    fn skip(&mut self) {
-        while let Some(b) = self.peek() {
-            if b == b'%' {
-                self.at = self.bytes[self.at..].iter().position(|b| *b == b'\n').map_or(self.bytes.len(), |n| self.at + n);
-            } else if is_blank(b) {
-                self.at += 1;
-            } else {
-                return;
-            }
-        }
-    }
-
-    /// A mark of one byte, behind blanks.
-    fn mark(&mut self, mark: u8) -> bool {
-        self.skip();
-        let there = self.peek() == Some(mark);
-        self.at += there as usize;
-        there
-    }
-
-    fn word(&mut self) -> &[u8] {
-        let from = self.at;
-        while self.peek().is_some_and(in_word) {
-            self.at += 1;
-        }
-        &self.bytes[from..self.at]
-    }
-
-    fn name(&mut self) -> Read<Vec<u8>> {
-        let from = self.at;
-        let name = self.word().to_vec();
-        if name.len() > 32 { Err(Refusal(42, from + 32)) } else { Ok(name) }
+    fn refused<T>(&self, code: u8, place: usize) -> Read<T> {
+        Err(Refusal(code + self.limits.add, place))
     }
 
     fn node(&mut self) -> Read<()> {
-        self.clause.nodes += 1;
-        if self.clause.nodes > 256 { Err(Refusal(5, self.at)) } else { Ok(()) }
+        self.counts.nodes += 1;
+        if self.counts.nodes > self.limits.nodes { self.refused(5, self.scan.at) } else { Ok(()) }
     }
 
     /// The arguments of a name whose bracket follows at once, and how many they are.
-    fn arguments(&mut self) -> Read<(u8, Vec<u8>)> {
+    fn arguments(&mut self) -> Read<(usize, Vec<u8>)> {
         let mut out = Vec::new();
-        if self.peek() != Some(b'(') {
+        if self.scan.peek() != Some(b'(') {
             return Ok((0, out));
         }
-        self.at += 1;
+        self.scan.at += 1;
         for n in 1.. {
-            self.skip();
-            if !self.peek().is_some_and(|b| b.is_ascii_lowercase() || starts_variable(b)) {
-                return self.unexpected();
+            self.scan.skip();
+            if !self.scan.peek().is_some_and(|b| b.is_ascii_lowercase() || starts_variable(b)) {
+                return self.scan.unexpected();
             }
             if n > 8 {
-                return Err(Refusal(4, self.at));
+                return self.refused(4, self.scan.at);
             }
             out.extend(self.term()?);
-            if self.mark(b')') {
+            if self.scan.mark(b')') {
                 return Ok((n, out));
             }
-            if !self.mark(b',') {
-                return self.unexpected();
+            if !self.scan.mark(b',') {
+                return self.scan.unexpected();
             }
         }
         unreachable!()
     }
 
     fn variable(&mut self) -> Read<Vec<u8>> {
-        let from = self.at;
-        let name = self.word().to_vec();
-        let next = self.clause.variables;
-        let number = if name == b"_" { next } else { *self.clause.named.entry(name).or_insert(next) };
-        if number > 63 {
-            return Err(Refusal(5, from));
+        let (from, next) = (self.scan.at, self.counts.variables);
+        let name = self.scan.word();
+        let number = if name == b"_" { next } else { *self.counts.named.entry(name).or_insert(next) };
+        if number >= self.limits.variables {
+            return self.refused(5, from);
         }
-        self.clause.variables = next.max(number + 1);
-        Ok(record(1, number))
+        self.counts.variables = next.max(number + 1);
+        Ok(record(1, number as u16))
     }
 
     fn term(&mut self) -> Read<Vec<u8>> {
         self.node()?;
-        if self.peek().is_some_and(starts_variable) {
+        if self.scan.peek().is_some_and(starts_variable) {
             return self.variable();
         }
-        let name = self.name()?;
-        if self.peek() != Some(b'(') {
-            return Ok(record(2, self.sorts[0].number(&name)));
+        let name = self.scan.name()?;
+        if self.scan.peek() != Some(b'(') {
+            return Ok(record(CONSTANT, self.names.number(CONSTANT, &name)));
         }
-        let mut out = record(3, self.sorts[1].number(&name));
+        let symbol = record(COMPOUND, self.names.number(COMPOUND, &name));
         let (arity, arguments) = self.arguments()?;
-        out.push(arity);
-        out.extend(arguments);
-        Ok(out)
+        Ok([symbol, vec![arity as u8], arguments].concat())
     }
 
     fn formula(&mut self) -> Read<Vec<u8>> {
+        let from = self.scan.at;
         self.node()?;
-        let name = self.name()?;
-        let mut out = record(4, self.sorts[2].number(&name));
+        let name = self.scan.name()?;
+        let number = self.names.number(PREDICATE, &name);
         let (arity, arguments) = self.arguments()?;
-        out.push(arity);
-        out.extend(arguments);
-        Ok(out)
+        if *self.arities.entry(number).or_insert(arity) != arity {
+            self.other_arity.get_or_insert(from);
+        }
+        Ok([record(PREDICATE, number), vec![arity as u8], arguments].concat())
     }
 
-    fn body(&mut self) -> Read<(u8, Vec<u8>)> {
+    /// Formulas with commas between, one at least, and how many they are.
+    fn formulas(&mut self) -> Read<(usize, Vec<u8>)> {
         let mut out = Vec::new();
-        if !self.mark(b':') {
-            return Ok((0, out));
-        }
-        if self.peek() != Some(b'-') {
-            return self.unexpected();
-        }
-        self.at += 1;
         for n in 1.. {
-            self.skip();
-            if !self.peek().is_some_and(|b| b.is_ascii_lowercase()) {
-                return self.unexpected();
+            self.scan.skip();
+            if !self.scan.peek().is_some_and(|b| b.is_ascii_lowercase()) {
+                return self.scan.unexpected();
             }
-            if n > 16 {
-                return Err(Refusal(4, self.at));
+            if n > self.limits.formulas {
+                return self.refused(4, self.scan.at);
             }
             out.extend(self.formula()?);
-            if !self.mark(b',') {
+            if !self.scan.mark(b',') {
                 return Ok((n, out));
             }
         }
         unreachable!()
     }
 
+    fn body(&mut self) -> Read<(usize, Vec<u8>)> {
+        if !self.scan.mark(b':') {
+            return Ok((0, Vec::new()));
+        }
+        if self.scan.peek() != Some(b'-') {
+            return self.scan.unexpected();
+        }
+        self.scan.at += 1;
+        self.formulas()
+    }
+
     fn clause(&mut self) -> Read<Vec<u8>> {
-        self.clause = Clause::default();
+        self.counts = Counts::default();
         let head = self.formula()?;
         let (formulas, body) = self.body()?;
-        if !self.mark(b'.') || !self.peek().is_none_or(|b| is_blank(b) || b == b'%') {
-            return self.unexpected();
-        }
-        Ok([vec![5, formulas], head, body].concat())
+        self.scan.stop()?;
+        Ok([vec![5, formulas as u8], head, body].concat())
     }
 
     fn clauses(&mut self) -> Read<Vec<u8>> {
         let mut book = Vec::new();
         for n in 1.. {
-            self.skip();
-            match self.peek() {
+            self.scan.skip();
+            match self.scan.peek() {
                 None => break,
-                Some(b) if !b.is_ascii_lowercase() => return self.unexpected(),
-                _ if n > 512 => return Err(Refusal(5, self.at)),
+                Some(b) if !b.is_ascii_lowercase() => return self.scan.unexpected(),
+                _ if n > 512 => return self.refused(5, self.scan.at),
                 _ => book.extend(self.clause()?),
             }
         }
         book.push(7);
-        if book.len() > 32768 { Err(Refusal(5, self.bytes.len())) } else { Ok(book) }
+        if book.len() > 32768 { self.refused(5, self.scan.bytes.len()) } else { Ok(book) }
     }
 
-    fn names(&self) -> Vec<u8> {
-        let entry = |kind, number, name: &[u8]| [&record(kind, number), &[name.len() as u8][..], name].concat();
-        let list =
-            |(sort, kind): (&Sort, u8)| sort.0.iter().enumerate().map(|(n, w)| entry(kind, n, w)).collect::<Vec<_>>().concat();
-        self.sorts.iter().zip(2..).map(list).collect::<Vec<_>>().concat()
+    /// A full stop at the end is allowed; no token is the empty goal.
+    fn query(&mut self) -> Read<Vec<u8>> {
+        self.scan.skip();
+        if self.scan.peek().is_none() {
+            return Ok(vec![6, 0, 0]);
+        }
+        let (formulas, out) = self.formulas()?;
+        if self.scan.peek() == Some(b'.') {
+            self.scan.stop()?;
+            self.scan.skip();
+        }
+        if self.scan.peek().is_some() {
+            return self.scan.unexpected();
+        }
+        Ok([record(6, formulas as u16), out].concat())
+    }
+
+    /// "7 just before 43, at that formula's first byte" (C-18).
+    fn whole(self, image: Vec<u8>) -> Read<Texts> {
+        match self.other_arity {
+            Some(place) => self.refused(7, place),
+            None => Ok(Texts { image, names: self.names.list() }),
+        }
     }
 }
 
-pub fn read(bytes: &[u8]) -> Read<Book> {
-    if bytes.len() > 65536 {
-        return Err(Refusal(40, 0));
-    }
-    let mut text = Text { bytes, at: 0, sorts: Default::default(), clause: Clause::default() };
+fn not_too_long(text: &[u8]) -> Read<()> {
+    if text.len() > 65536 { Err(Refusal(40, 0)) } else { Ok(()) }
+}
+
+pub fn rules(bytes: &[u8]) -> Read<Texts> {
+    not_too_long(bytes)?;
+    let mut text = Text::new(bytes, IN_CLAUSE, Names::default(), HashMap::new());
     let book = text.clauses()?;
-    Ok(Book { book, names: text.names() })
+    text.whole(book)
+}
+
+/// A query to a good book, by its list of names: "new names numbered after it".
+pub fn query(bytes: &[u8], book: &[u8], list: &[u8]) -> Read<Texts> {
+    let clauses = read::book(Profile::Plain, book).map_err(|r| Refusal(r.code, r.place as usize))?;
+    let names = Names::read(list).filter(Names::has_room).ok_or(Refusal(45, 0))?;
+    not_too_long(bytes)?;
+    let mut text = Text::new(bytes, IN_QUERY, names, read::used(&clauses));
+    let goal = text.query()?;
+    text.whole(goal)
+}
+
+/// What is read laid into two areas; "last 43, area too small for the finished book or names".
+pub fn laid(read: Read<Texts>, area: &mut [u8], list: &mut [u8]) -> Read<(usize, usize)> {
+    let Texts { image, names } = read?;
+    if image.len() > area.len() || names.len() > list.len() {
+        return Err(Refusal(43, 0));
+    }
+    area[..image.len()].copy_from_slice(&image);
+    list[..names.len()].copy_from_slice(&names);
+    Ok((image.len(), names.len()))
 }

@@ -2,10 +2,12 @@
 // which a check, a single step and a pick have no use; the goal area's length (4 bytes), its first byte and what each byte has more than the one before it, modulo
 // 256 (1 byte each); the same of the answer area, of which only a run has use; the book's length (4 bytes), the book, and the query. Where a book is printed, the list
 // of names stands in the query's place; where a goal or an answer is, that and behind it the list, and the goal's length in the place of the budget.
+// A text to be read as rules stands in the book's place, and the areas are for the book and its names.
 use crate::entries;
 use crate::flat;
 use crate::number;
 use crate::print;
+use crate::reading;
 ghost use mathlib.Core.Path.{_≡_};
 ghost use mathlib.Core.Bool.{true};
 ghost use Prim.Native.Nat.{_≤_};
@@ -81,6 +83,7 @@ fn call(
         16 => flat::step_for_c(book, query, area),
         17 => flat::run_for_c(book, query, number, area, answer),
         18 => print::book(book, query, area),
+        21 => reading::rules(book, area, answer),
         _ => with_names(entry, book, number as usize, query, area),
     }
 }
