@@ -16,9 +16,9 @@ archive() {
     ports/module engine "$@"
 }
 
-# native_archive: the archive for this machine itself, which valgrind can follow: on another processor than x86-64 that of ports/build.
+# native_archive NAME..: the archives for this machine itself, which valgrind can follow: on another processor than x86-64 those of ports/build.
 native_archive() {
-    archive || return
+    archive "$@" || return
     [ "$(uname -m)" != x86_64 ] || return 0
     grep -q "^$(uname -m) " ports/targets || { echo "there is no archive for this processor"; exit 77; }
     built=target/ports/$(uname -m)/libengine.a
