@@ -1,6 +1,6 @@
 -- Pieces before a place that keep to the sizes hold no name or variable that is one too many.
 use Prim.Native.Nat.{ℕ, _<_}
-use mathlib.Core.Path.{_≡_, refl, sym as inv, ap, _∙_}
+use mathlib.Core.Path.{_≡_, refl, sym as inv, ap, ap₂, _∙_}
 use mathlib.Core.Bool.{true, true≢false}
 use mathlib.Core.List.{List, [], _∷_, _++_, append-assoc}
 use native.Mathlib.Omega.{arith}
@@ -16,7 +16,7 @@ use Rattle.reading.specs.LimitLaws.{SmallState}
 use Rattle.reading.specs.RunLaws.{Runs, run-end, run-step}
 use Rattle.reading.specs.Stop.{Spaced-to}
 use Rattle.reading.specs.Whole.{Healthy, Filled}
-use Rattle.reading.specs.Viable.{first-stays}
+use Rattle.reading.specs.Viable.{first-stays, tokens-append}
 use Rattle.reading.specs.Refusal.{Before}
 use Rattle.reading.specs.CompleteLaws.{opened}
 use Rattle.reading.specs.PartialLaws.{Follows, waiting, rules-run, waiting-run, name-waited, formulas-run, part-run, done-run, variables-grow}
@@ -32,34 +32,34 @@ runs-split (t ∷ a) b (run-step {n = m} j r) (run-step {n = k} i q) = runs-spli
 
 -- The same pieces
 
-spaced-rest : (p : Piece) (ps : List Piece) (left : List ℕ) → Spaced-to (p ∷ ps) left → Spaced-to ps left
+pub spaced-rest : (p : Piece) (ps : List Piece) (left : List ℕ) → Spaced-to (p ∷ ps) left → Spaced-to ps left
 spaced-rest p [] left s = tt
 spaced-rest p (q ∷ ps) left s = s .1
 
-found-front : (p : Piece) (ps : List Piece) (x : List ℕ) → Spaced-to (p ∷ ps) x → front-of (bytes (p ∷ ps) ++ x) ≡ front p (bytes ps ++ x)
+pub found-front : (p : Piece) (ps : List Piece) (x : List ℕ) → Spaced-to (p ∷ ps) x → front-of (bytes (p ∷ ps) ++ x) ≡ front p (bytes ps ++ x)
 found-front p ps x s = ap front-of (append-assoc (spelt p) (bytes ps) x) ∙ front-is p (bytes ps ++ x) (first-stays p ps x s)
 
-more-tokens : (p : Piece) (ps qs : List Piece) (t : Token) (more : List Token) → tokens qs ≡ tokens ps ++ t ∷ more → tokens (p ∷ qs) ≡ tokens (p ∷ ps) ++ t ∷ more
-more-tokens (token u) ps qs t more e = ap (λ (l : List Token). u ∷ l) e
-more-tokens (blank b) ps qs t more e = e
-more-tokens (comment c) ps qs t more e = e
-
-pub shared-pieces : (ps qs : List Piece) (x y : List ℕ) (t : Token) (rest : List ℕ) → Spaced-to ps x → Spaced-to qs y → bytes ps ++ x ≡ bytes qs ++ y → x ≡ spelling t ++ rest → Stands t rest →
-    length (bytes ps) < length (bytes qs) → (more : List Token) × (tokens qs ≡ tokens ps ++ t ∷ more)
-shared-pieces ps [] x y t rest s u e h k l = absurd (omega arith)
-shared-pieces [] (q ∷ qs) x y t rest s u e h k l =
+-- pieces that go further have the token that stands behind the others, and what is behind it
+pub shared-on : (ps qs : List Piece) (x y : List ℕ) (t : Token) (rest : List ℕ) → Spaced-to ps x → Spaced-to qs y → bytes ps ++ x ≡ bytes qs ++ y → x ≡ spelling t ++ rest → Stands t rest →
+    length (bytes ps) < length (bytes qs) → (more : List Piece) × (qs ≡ ps ++ token t ∷ more)
+shared-on ps [] x y t rest s u e h k l = absurd (omega arith)
+shared-on [] (q ∷ qs) x y t rest s u e h k l =
     let f : front q (bytes qs ++ y) ≡ front (token t) rest = inv (found-front q qs y u) ∙ ap front-of (inv e ∙ h) ∙ front-is (token t) rest k in
     let g : q ≡ token t = cc in
-    (tokens qs, ap (λ (z : Piece). tokens (z ∷ qs)) g)
-shared-pieces (p ∷ ps) (q ∷ qs) x y t rest s u e h k l =
+    (qs, ap (λ (z : Piece). z ∷ qs) g)
+shared-on (p ∷ ps) (q ∷ qs) x y t rest s u e h k l =
     let f : front p (bytes ps ++ x) ≡ front q (bytes qs ++ y) = inv (found-front p ps x s) ∙ ap front-of e ∙ found-front q qs y u in
     let g : p ≡ q = cc in
     let d : bytes ps ++ x ≡ bytes qs ++ y = cc in
     let n : length (spelt p) ≡ length (spelt q) = ap (λ (z : Piece). length (spelt z)) g in
     let m =
-    shared-pieces ps qs x y t rest (spaced-rest p ps x s) (spaced-rest q qs y u) d h k
+    shared-on ps qs x y t rest (spaced-rest p ps x s) (spaced-rest q qs y u) d h k
     (omega (arith, l, n, length-append (spelt p) (bytes ps), length-append (spelt q) (bytes qs))) in
-    (m .0, ap (λ (z : Piece). tokens (z ∷ qs)) (inv g) ∙ more-tokens p ps qs t (m .0) (m .1))
+    (m .0, ap₂ _∷_ (inv g) (m .1))
+
+pub shared-pieces : (ps qs : List Piece) (x y : List ℕ) (t : Token) (rest : List ℕ) → Spaced-to ps x → Spaced-to qs y → bytes ps ++ x ≡ bytes qs ++ y → x ≡ spelling t ++ rest → Stands t rest →
+    length (bytes ps) < length (bytes qs) → (more : List Token) × (tokens qs ≡ tokens ps ++ t ∷ more)
+shared-pieces ps qs x y t rest s u e h k l = let m = shared-on ps qs x y t rest s u e h k l in (tokens (m .0), ap tokens (m .1) ∙ tokens-append ps (token t ∷ m .0))
 
 -- What is read in part, in any mode, is read again, with something behind it
 

@@ -86,7 +86,7 @@ full-means : (p : Part) → full p ≡ true → Ninth p
 full-means (formulas fs) e = leb-true _ (length fs) e
 full-means (inside p v d) e = leb-true _ (size d) e
 
-long-means : (t : Token) → long t ≡ true → (w : List ℕ) × (t ≡ name w) × (33 ≤ length w)
+pub long-means : (t : Token) → long t ≡ true → (w : List ℕ) × (t ≡ name w) × (33 ≤ length w)
 long-means (name w) e = (w, refl, leb-true _ (length w) e)
 long-means (variable w) e = let z : _≡_ {A = ℕ} 0 1 = cc in absurd (omega arith)
 long-means opening e = let z : _≡_ {A = ℕ} 0 1 = cc in absurd (omega arith)

@@ -45,11 +45,11 @@ word-fits (blank c) comma rest b s h = absurd b
 word-fits (blank c) arrow rest b s h = absurd b
 word-fits (blank c) stop rest b s h = absurd b
 
-snoc-bytes : (ps : List Piece) (t : Token) (rest : List ℕ) → bytes (ps ++ token t ∷ []) ++ rest ≡ bytes ps ++ (spelling t ++ rest)
+pub snoc-bytes : (ps : List Piece) (t : Token) (rest : List ℕ) → bytes (ps ++ token t ∷ []) ++ rest ≡ bytes ps ++ (spelling t ++ rest)
 snoc-bytes ps t rest =
     ap (λ (l : List ℕ). l ++ rest) (bytes-append ps (token t ∷ []) ∙ ap (λ (l : List ℕ). bytes ps ++ l) (append-nil (spelling t))) ∙ append-assoc (bytes ps) (spelling t) rest
 
-snoc-spaced : (ps : List Piece) (t : Token) (rest : List ℕ) → Begins t → Stands t rest → Spaced-to ps (spelling t ++ rest) → Spaced-to (ps ++ token t ∷ []) rest
+pub snoc-spaced : (ps : List Piece) (t : Token) (rest : List ℕ) → Begins t → Stands t rest → Spaced-to ps (spelling t ++ rest) → Spaced-to (ps ++ token t ∷ []) rest
 snoc-spaced [] t rest b s h = s
 snoc-spaced (p ∷ []) t rest b s h = (rw (append-nil (spelling t)) (word-fits p t rest b s h), s)
 snoc-spaced (p ∷ q ∷ ps) t rest b s h = (rw (snoc-bytes (q ∷ ps) t rest) (h .0), snoc-spaced (q ∷ ps) t rest b s (h .1))
@@ -129,7 +129,7 @@ stop-no-letter (inr e) = true≢false (inv e)
 letter-at : (a b : ℕ) (x y : List ℕ) → b ∷ x ≡ a ∷ y → Letter a → Letter b
 letter-at a b x y e l = let q : a ≡ b = cc in rw q at l
 
-no-half : (h t : Token) (left rest : List ℕ) → Half h left → left ≡ spelling t ++ rest → Begins t → Stands t rest → ⊥
+pub no-half : (h t : Token) (left rest : List ℕ) → Half h left → left ≡ spelling t ++ rest → Begins t → Stands t rest → ⊥
 no-half h t left rest x e b s = by (half-byte h left x .1)
   where
     w : (a : ℕ) × (y : List ℕ) × (spelling t ++ rest ≡ a ∷ y) × Letter a
@@ -140,7 +140,7 @@ no-half h t left rest x e b s = by (half-byte h left x .1)
     by (inr q) = stop-no-letter (letter-at (w .0) 46 _ (w .1) (inv q ∙ e ∙ w .2) (w .3))
 
 -- two beginnings of one length leave the same
-same-left : (text x y left right : List ℕ) → text ≡ x ++ left → text ≡ y ++ right → length x ≡ length y → left ≡ right
+pub same-left : (text x y left right : List ℕ) → text ≡ x ++ left → text ≡ y ++ right → length x ≡ length y → left ≡ right
 same-left text x y left right e f l = inv (drop-at x left (length x) refl) ∙ ap (drop (length x)) (inv e ∙ f) ∙ drop-at y right (length x) (inv l)
 
 module _ {text : List ℕ} {at : ℕ} {s : State} (f : Before text at s) (i : ℕ) (u : Unexpected text i) (near : Near f i) where

@@ -37,7 +37,7 @@ here {s} {at} {rest} {c} {i} sm f =
       fault = rw (let q : at + 0 ≡ at = omega arith in q) f;
     }
 
-gap-spaced : (p : Piece) (ps : List Piece) (left : List ℕ) → Stays p (bytes ps ++ left) → (Begun ps → Fits p (bytes ps ++ left)) → Spaced-to ps left → Spaced-to (p ∷ ps) left
+pub gap-spaced : (p : Piece) (ps : List Piece) (left : List ℕ) → Stays p (bytes ps ++ left) → (Begun ps → Fits p (bytes ps ++ left)) → Spaced-to ps left → Spaced-to (p ∷ ps) left
 gap-spaced p [] left h j s = h
 gap-spaced p (q ∷ ps) left h j s = (j tt, s)
 
@@ -91,7 +91,7 @@ not-broken : {X : Type 0} {t : Token} → broken t ≡ unexpected → X
 not-broken e = let z : _≡_ {A = ℕ} 0 1 = cc in absurd (omega arith)
 
 -- a byte that begins nothing
-begins-nothing : (k : Class) (b : ℕ) (x : List ℕ) → cut k b x ≡ unexpected → k ≡ nothing
+pub begins-nothing : (k : Class) (b : ℕ) (x : List ℕ) → cut k b x ≡ unexpected → k ≡ nothing
 begins-nothing a-bracket b x e = not-unexpected e
 begins-nothing a-name b x e = not-unexpected e
 begins-nothing a-variable b x e = not-unexpected e

@@ -32,22 +32,22 @@ stays-first (token stop) b u v h = h
 stays-first (blank c) b u v h = h
 stays-first (comment c) b u v h = h
 
-stays-behind : (p : Piece) (z : List ℕ) (b : ℕ) (x y : List ℕ) → Stays p (z ++ b ∷ x) → Stays p (z ++ b ∷ y)
+pub stays-behind : (p : Piece) (z : List ℕ) (b : ℕ) (x y : List ℕ) → Stays p (z ++ b ∷ x) → Stays p (z ++ b ∷ y)
 stays-behind p [] b x y h = stays-first p b x y h
 stays-behind p (c ∷ z) b x y h = stays-first p c (z ++ b ∷ x) (z ++ b ∷ y) h
 
-spaced-tail : (p : Piece) (ps : List Piece) (left : List ℕ) → Spaced-to (p ∷ ps) left → Spaced-to ps left
+pub spaced-tail : (p : Piece) (ps : List Piece) (left : List ℕ) → Spaced-to (p ∷ ps) left → Spaced-to ps left
 spaced-tail p [] left h = tt
 spaced-tail p (q ∷ ps) left h = h .1
 
 -- pieces that go on behind others
-record Parted (ps qs : List Piece) (rest : List ℕ) : Type 0 where
-  more : List Piece
-  joined : qs ≡ ps ++ more
-  spaced : Spaced more
-  whole : bytes more ≡ rest
+pub record Parted (ps qs : List Piece) (rest : List ℕ) : Type 0 where
+  pub more : List Piece
+  pub joined : qs ≡ ps ++ more
+  pub spaced : Spaced more
+  pub whole : bytes more ≡ rest
 
-parted : (ps qs : List Piece) (b : ℕ) (x y : List ℕ) → Spaced-to ps (b ∷ x) → Spaced qs → bytes qs ≡ bytes ps ++ b ∷ y → Parted ps qs (b ∷ y)
+pub parted : (ps qs : List Piece) (b : ℕ) (x y : List ℕ) → Spaced-to ps (b ∷ x) → Spaced qs → bytes qs ≡ bytes ps ++ b ∷ y → Parted ps qs (b ∷ y)
 parted [] qs b x y s t e = record { more = qs; joined = refl; spaced = t; whole = e }
 parted (p ∷ ps) [] b x y s t e = absurd (omega (arith, ap length e, length-append (bytes (p ∷ ps)) (b ∷ y)))
 parted (p ∷ ps) (q ∷ qs) b x y s t e =

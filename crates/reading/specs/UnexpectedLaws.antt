@@ -37,7 +37,7 @@ variable-alike cs p complete v w e = refl
 
 -- What one byte, or two, begin
 
-clash : {X : Type 0} {t : Token} {p : Piece} {r : List ℕ} → broken t ≡ front p r → X
+pub clash : {X : Type 0} {t : Token} {p : Piece} {r : List ℕ} → broken t ≡ front p r → X
 clash e = let z : _≡_ {A = ℕ} 0 1 = cc in absurd (omega arith)
 
 stop-only : (x : List ℕ) (p : Piece) (r : List ℕ) → stop-at x ≡ front p r → p ≡ token stop
@@ -61,7 +61,7 @@ module _ (n : State) (b : ℕ) (x y : List ℕ) (t : Token) (q : Piece) (r : Lis
   same-token : (u : Token) → t ≡ u → q ≡ token u → behind-piece n q ≡ wrong
   same-token u e f = ap (behind-piece n) (f ∙ ap token (inv e)) ∙ w
 
-  alike : (k : Class) (l : List ℕ) → cut k b x ≡ front (token t) l → cut k b y ≡ front q r → behind-piece n q ≡ wrong
+  pub alike : (k : Class) (l : List ℕ) → cut k b x ≡ front (token t) l → cut k b y ≡ front q r → behind-piece n q ≡ wrong
   alike a-bracket l e f = same-token opening (cc) (cc)
   alike a-name l e f =
       let g : t ≡ name (b ∷ run goes-on x) = cc in
@@ -79,7 +79,7 @@ module _ (n : State) (b : ℕ) (x y : List ℕ) (t : Token) (q : Piece) (r : Lis
   alike an-arrow l e f = same-token arrow (let h = arrow-only x (token t) l e in cc) (arrow-only y q r f)
   alike nothing l e f = let z : _≡_ {A = ℕ} 0 1 = cc in absurd (omega arith)
 
-  half-alike : (k : Class) → cut k b x ≡ broken t → cut k b y ≡ front q r → behind-piece n q ≡ wrong
+  pub half-alike : (k : Class) → cut k b x ≡ broken t → cut k b y ≡ front q r → behind-piece n q ≡ wrong
   half-alike a-bracket e f = clash (inv e)
   half-alike a-name e f = clash (inv e)
   half-alike a-variable e f = clash (inv e)
@@ -91,7 +91,7 @@ module _ (n : State) (b : ℕ) (x y : List ℕ) (t : Token) (q : Piece) (r : Lis
   half-alike an-arrow e f = same-token arrow (arrow-half x t e) (arrow-only y q r f)
   half-alike nothing e f = let z : _≡_ {A = ℕ} 0 1 = cc in absurd (omega arith)
 
-two-bytes : (k : Class) (b d : ℕ) (x y : List ℕ) (t : Token) → cut k b (d ∷ x) ≡ broken t → cut k b (d ∷ y) ≡ broken t
+pub two-bytes : (k : Class) (b d : ℕ) (x y : List ℕ) (t : Token) → cut k b (d ∷ x) ≡ broken t → cut k b (d ∷ y) ≡ broken t
 two-bytes a-bracket b d x y t e = clash (inv e)
 two-bytes a-name b d x y t e = clash (inv e)
 two-bytes a-variable b d x y t e = clash (inv e)
@@ -112,7 +112,7 @@ end-fits (token t) h = h
 end-fits (blank b) h = (h, tt)
 end-fits (comment c) h = h
 
-end-spaced : (ps : List Piece) → Spaced-to ps [] → Spaced ps
+pub end-spaced : (ps : List Piece) → Spaced-to ps [] → Spaced ps
 end-spaced [] h = tt
 end-spaced (p ∷ []) h = (end-fits p h, tt)
 end-spaced (p ∷ q ∷ ps) h = (rw (append-nil (bytes (q ∷ ps))) at (h .0), end-spaced (q ∷ ps) (h .1))

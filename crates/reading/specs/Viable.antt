@@ -57,7 +57,7 @@ fits-first (token stop) b u v h = h
 fits-first (blank c) b u v h = h
 fits-first (comment c) b u v h = h
 
-fits-behind : (p : Piece) (x u v : List ℕ) → 0 < length x → Fits p (x ++ u) → Fits p (x ++ v)
+pub fits-behind : (p : Piece) (x u v : List ℕ) → 0 < length x → Fits p (x ++ u) → Fits p (x ++ v)
 fits-behind p [] u v l h = absurd (omega arith)
 fits-behind p (b ∷ x) u v l h = fits-first p b (x ++ u) (x ++ v) h
 
@@ -105,10 +105,10 @@ made ps n ts c o rest e sp =
         ∙ goes-printed n ts [] (state (o .rules) (formulas []) between) (o .over)
         ∙ rules-of-then (o .rules) []
 
-abbrev whole-pieces : List Token → List Piece
+abbrev pub whole-pieces : List Token → List Piece
 whole-pieces ts = map token ts
 
-tokens-whole : (ts : List Token) → tokens (whole-pieces ts) ≡ ts
+pub tokens-whole : (ts : List Token) → tokens (whole-pieces ts) ≡ ts
 tokens-whole [] = refl
 tokens-whole (t ∷ ts) = ap (λ (l : List Token). t ∷ l) (tokens-whole ts)
 
@@ -128,7 +128,7 @@ completion-spaced (formulas fs) complete = ((refl, refl), ending-spaced (formula
 completion-spaced (inside p v d) complete = ((refl, refl), ending-spaced (inside p v d))
 
 -- any piece may have an LF behind it
-line-behind : (p : Piece) (left rest : List ℕ) → Stays p left → Fits p (10 ∷ rest)
+pub line-behind : (p : Piece) (left rest : List ℕ) → Stays p left → Fits p (10 ∷ rest)
 unfolding is-blank is-percent is-line-end is-bracket small capital digit goes-on after-stop
 line-behind (token (name w)) left rest h = (h .0, refl)
 line-behind (token (variable w)) left rest h = (h .0, refl)
@@ -141,7 +141,7 @@ line-behind (blank b) left rest h = (h, refl)
 line-behind (comment c) left rest h = (h .0, refl)
 
 -- and the byte that it has, unless that is a bracket
-same-behind : (p : Piece) (b : ℕ) (u v : List ℕ) → is-bracket b ≡ false → Stays p (b ∷ u) → Fits p (b ∷ v)
+pub same-behind : (p : Piece) (b : ℕ) (u v : List ℕ) → is-bracket b ≡ false → Stays p (b ∷ u) → Fits p (b ∷ v)
 same-behind (token (name w)) b u v n h = h
 same-behind (token (variable w)) b u v n h = h
 same-behind (token opening) b u v n h = h

@@ -81,7 +81,7 @@ goes-printed s (t ∷ ts) r n e = by (next (s .rules) (s .part) (s .mode) t) (ke
     by (taken m) h more e = h .0 (ts ++ r) ∙ more m e
     by wrong h more e = let z : _≡_ {A = ℕ} 0 1 = cc in absurd (omega arith)
 
-put-filled : (p : Part) (w : List ℕ) (own : Terms) → Filled (put p w own)
+pub put-filled : (p : Part) (w : List ℕ) (own : Terms) → Filled (put p w own)
 put-filled (formulas fs) w own = tt
 put-filled (inside p v d) w own = refl
 
