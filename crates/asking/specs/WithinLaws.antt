@@ -7,7 +7,7 @@ use native.Mathlib.Omega.{arith}
 use lib.ListN.{length}
 use lib.Dec.{leb}
 use borrow.Author.Tests.{leb-false, lt-leb}
-use Rattle.terms.specs.Cases.{cases}
+use Rattle.terms.specs.When.{_⇒_∣_}
 use Rattle.grammar.specs.Token.{Token, name, variable, opening, closing, comma, arrow, stop}
 use Rattle.grammar.specs.Syntax.{Terms, none, variable-then, name-then, Formula, Turn, first, later, before, arguments-then, formula-then}
 use Rattle.grammar.specs.Names.{count, formulas-spots}
@@ -36,15 +36,19 @@ room-full : (a : ℕ) (bs : List ℕ) → Room a bs → full a bs ≡ false
 room-full a [] h = lt-leb 512 a h
 room-full a (b ∷ bs) h = lt-leb 8 b h
 
+no-code : (a b : Bool) → _≡_ {A = ℕ} (a ⇒ 14 ∣ b ⇒ 15 ∣ 0) 0 → (a ≡ false) × (b ≡ false)
+no-code true b e = absurd (omega arith)
+no-code false true e = absurd (omega arith)
+no-code false false e = (refl, refl)
+
 code-room : (a : ℕ) (bs : List ℕ) (n : ℕ) → code (tally a bs n) ≡ 0 → Room a bs × (n < 4096)
-code-room a bs n e =
-    cases (full a bs) (λ h. let z : 14 ≡ 0 = rw h at e in absurd (omega arith))
-    (λ h.
-    cases (leb 4096 n) (λ k. let z : 15 ≡ 0 = rw (h, k) at e in absurd (omega arith))
-    (λ k. (full-room a bs h, leb-false 4096 n k)))
+code-room a bs n e = let k = no-code (full a bs) _ e in (full-room a bs (k .0), omega (arith, leb-false _ n (k .1)))
+
+code-none : (a b : Bool) → a ≡ false → b ≡ false → _≡_ {A = ℕ} (a ⇒ 14 ∣ b ⇒ 15 ∣ 0) 0
+code-none a b h k = rw (h, k)
 
 room-code : (a : ℕ) (bs : List ℕ) (n : ℕ) → Room a bs → n < 4096 → code (tally a bs n) ≡ 0
-room-code a bs n h l = rw (room-full a bs h, lt-leb 4096 n l)
+room-code a bs n h l = code-none (full a bs) _ (room-full a bs h) (lt-leb _ n (omega arith))
 
 long-short : (w : List ℕ) → leb 33 (length w) ≡ false → length w ≤ 32
 long-short w e = omega (arith, leb-false 33 (length w) e)
