@@ -47,6 +47,10 @@ fault-code (longest-name s l) = omega arith
 fault-code (out-of-range s b h) = omega arith
 fault-code (nodes-passed s b h) = omega arith
 
+pub refusal-code : {text : List ℕ} {c i : ℕ} → Refusal text c i → 0 < c
+refusal-code (long-text h) = omega arith
+refusal-code (first-fault l f) = fault-code (f .there)
+
 rank-one : (c d : ℕ) → 0 < c → 0 < d → rank c ≡ rank d → c ≡ d
 rank-one c d p q e =
     cases (eqb c 41)

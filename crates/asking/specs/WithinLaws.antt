@@ -42,7 +42,7 @@ no-code false true e = absurd (omega arith)
 no-code false false e = (refl, refl)
 
 code-room : (a : ℕ) (bs : List ℕ) (n : ℕ) → code (tally a bs n) ≡ 0 → Room a bs × (n < 4096)
-code-room a bs n e = let k = no-code (full a bs) _ e in (full-room a bs (k .0), omega (arith, leb-false _ n (k .1)))
+code-room a bs n e = let k = no-code (full a bs) _ e in (full-room a bs (k .0), leb-false _ n (k .1))
 
 code-none : (a b : Bool) → a ≡ false → b ≡ false → _≡_ {A = ℕ} (a ⇒ 14 ∣ b ⇒ 15 ∣ 0) 0
 code-none a b h k = rw (h, k)
