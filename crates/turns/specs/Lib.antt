@@ -3,3 +3,4 @@ pub mod Machine
 pub mod MachineLaws
 pub mod Stage
 pub mod Passing
+pub mod Once
