@@ -1,13 +1,11 @@
 -- Heads of the formula's predicate and arity, by their first words, and the argument at which they fail.
-use Prim.Native.Nat.{ℕ, zero, suc, _+_, _*_, _-_, _%_, _≤_, _<_}
+use Prim.Native.Nat.{ℕ, zero, suc, _+_, _-_, _%_, _≤_, _<_}
 use native.Mathlib.Omega.{arith}
 use native.Mathlib.Decide.{decLt}
-use native.Mathlib.Numerals.{add-one}
 use mathlib.Core.Path.{_≡_, refl, sym as inv, ap, _∙_, subst}
 use mathlib.Core.Option.{some}
 use mathlib.Core.List.{List, [], _∷_}
 use lib.ListN.{length, getD, take, drop}
-use lib.Seq.{getD-take, getD-drop}
 use Rattle.terms.specs.Node.{Symbol, arity, predicate, sym, Expr}
 use Rattle.terms.specs.Row.{Row}
 use Rattle.terms.specs.RowLaws.{row-long}
@@ -25,13 +23,14 @@ use Rattle.words.specs.WordLaws.{node-pred}
 use Rattle.words.specs.PackLaws.{same-word}
 use Rattle.words.specs.Columns.{every}
 use Rattle.words.specs.Held.{GoalIn, ClauseIn, BookOn}
+use Rattle.words.specs.Lists.{Found}
 use Rattle.words.specs.HeldLaws.{headed, first-kind}
 use Rattle.unifier.specs.Tables.{VerdictIn}
 use Rattle.picking.specs.Laying.{Paired}
 use Rattle.picking.specs.Stuck.{Weighed}
 use Rattle.picking.proofs.Problems.{goal-name, clause-name, names-apart, sides}
 use Rattle.picking.proofs.Trials.{formula-length, left-word, right-word}
-use Rattle.picking.proofs.Picks.{placed-at, head-placed}
+use Rattle.picking.proofs.Picks.{placed-at, head-placed, head-here, head-first}
 
 -- the first node of words that hold a formula
 starts-with : (l : List ℕ) (e : Expr) (g : List Expr) → nodes l ≡ flat (e ∷ g) → Row 1 e → kindOf (getD l 0 0) ≡ 4 → (t : Expr) × (e ≡ sym (predicate (getD l 0 0 % 65536) (arityOf (getD l 0 0))) ∷ t)
@@ -80,14 +79,8 @@ module _ {formula head : List ℕ} {k : ℕ} {f : Expr} (c : Clause) (p : GoalIn
       ∙ named goal-name clause-name (predicate (getD formula 0 0 % 65536) (arityOf (getD formula 0 0))) f (c .head) (x .0) (y .0) (x .1)
       (y .1 ∙ ap (λ u. sym (predicate (u % 65536) (arityOf u)) ∷ y .0) same) (p .formulas .0) (h .formulas .0) (names-apart head _ 0 (headed c) h (f ∷ []))
 
--- the first word of a head in the book
-pub head-first : (book : List ℕ) (s e : ℕ) → s < e → getD (take (e - s) (drop s book)) 0 0 ≡ getD book s 0
-head-first book s e l =
-    let z : s + 0 ≡ s = omega arith in
-    getD-take (e - s) (drop s book) 0 0 (omega arith) ∙ getD-drop s book 0 0 ∙ ap (λ x. getD book x 0) z
-
 -- The clause number i, beside the best so far.
-module _ {formula book shelf : List ℕ} (i s e : ℕ) (es : (n : ℕ) → i < n → s ≡ getD (every 3 0 n shelf) i 0) (ee : (n : ℕ) → i < n → e ≡ getD (every 3 1 n shelf) i 0) (q p : ℕ) (eq : q ≡ getD book s 0) (ep : p ≡ getD formula 0 0)
+module _ {formula book shelf : List ℕ} (i s e : ℕ) (es : (n : ℕ) → i < n → s ≡ getD (every 4 256 n shelf) i 0) (ee : (n : ℕ) → i < n → e ≡ getD (every 4 257 n shelf) i 0) (q p : ℕ) (eq : q ≡ getD book s 0) (ep : p ≡ getD formula 0 0)
     (f : Expr) (P : Book) (h : GoalIn formula 1 (f ∷ [])) (b : BookOn book shelf P) (l : i < length P) where
   abbrev head : ClauseIn (take (e - s) (drop s book)) (e - s) 0 (headed (clause-at P i))
   head = head-placed b i s e l es ee
@@ -117,15 +110,37 @@ module _ {formula book shelf : List ℕ} (i s e : ℕ) (es : (n : ℕ) → i < n
 abbrev pub Foremost : List ℕ → List ℕ → List ℕ → ℕ → Figures → Type 0
 Foremost formula book shelf i best = (f : Expr) (P : Book) → GoalIn formula 1 (f ∷ []) → BookOn book shelf P → Best (λ j. failing f (clause-at P j)) i best
 
-weighed-best : {at : ℕ → ℕ} {i : ℕ} {best r : Figures} → Best at i best → Weighed best i (at i) r → Best at (i + 1) r
-weighed-best {at} {i} {best} {r} x w = rw add-one (elim (decLt (best .argument) (at i)) [
+weighed-best : {at : ℕ → ℕ} {i : ℕ} {best r : Figures} → Best at i best → Weighed best i (at i) r → Best at (suc i) r
+weighed-best {at} {i} {best} {r} x w = elim (decLt (best .argument) (at i)) [
   | yes l ↦ subst (Best at (suc i)) (inv (w .taken l)) (best-take x l)
   | no l ↦ subst (Best at (suc i)) (inv (w .kept (omega arith))) (best-keep x (omega arith))
-])
+]
 
 pub foremost-more : {formula book shelf : List ℕ} (i : ℕ) (best r : Figures) → ((P : Book) → BookOn book shelf P → i < length P) → Foremost formula book shelf i best
-    → ((f : Expr) (P : Book) → GoalIn formula 1 (f ∷ []) → BookOn book shelf P → i < length P → Weighed best i (failing f (clause-at P i)) r) → Foremost formula book shelf (i + 1) r
+    → ((f : Expr) (P : Book) → GoalIn formula 1 (f ∷ []) → BookOn book shelf P → i < length P → Weighed best i (failing f (clause-at P i)) r) → Foremost formula book shelf (suc i) r
 foremost-more i best r l x w f P h b = weighed-best (x f P h b) (w f P h b (l P b))
+
+-- heads that begin with another word fail at no argument
+module _ {formula book shelf : List ℕ} {f : Expr} {P : Book} (h : GoalIn formula 1 (f ∷ [])) (b : BookOn book shelf P) {u q r : ℕ} (eu : u ≡ getD formula 0 0) (x : Found book shelf P u q r) where
+  none-between : (j : ℕ) → q ≤ j → j < r → failing f (clause-at P j) ≡ 0
+  none-between j a l =
+      let i : j < length P = omega (arith, x .high) in
+      let c = head-here b j i in
+      unlike-failing f (clause-at P j) (h .atoms .0) (c .atoms .0) (h .formulas .0) (c .formulas .0)
+      (λ s. x .other j a l (inv (head-first book _ _ (b .held .placed j i .begins)) ∙ alike-same formula _ _ f (clause-at P j) h c s ∙ inv eu))
+
+  best-found : {best : Figures} → Best (λ j. failing f (clause-at P j)) q best → Best (λ j. failing f (clause-at P j)) r best
+  best-found {best} y = up (r - q) r (omega (arith, x .low)) (omega arith)
+    where
+      up : (k m : ℕ) → m ≡ q + k → m ≤ r → Best (λ j. failing f (clause-at P j)) m best
+      up zero m e l = let z : m ≡ q = omega arith in rw z y
+      up (suc k) m e l =
+          let z : m ≡ suc (q + k) = omega arith in
+          rw z (best-keep (up k (q + k) refl (omega arith)) (omega (arith, none-between (q + k) (omega arith) (omega arith))))
+
+pub foremost-found : {formula book shelf : List ℕ} {u : ℕ} (q r : ℕ) (best : Figures) → u ≡ getD formula 0 0 → ((P : Book) → BookOn book shelf P → Found book shelf P u q r) → Foremost formula book shelf q best
+    → Foremost formula book shelf r best
+foremost-found q r best eu x y f P h b = best-found h b eu (x P b) (y f P h b)
 
 pub foremost-all : {formula book shelf : List ℕ} (i : ℕ) (best : Figures) → Foremost formula book shelf i best → (f : Expr) (P : Book) → GoalIn formula 1 (f ∷ []) → BookOn book shelf P → i ≡ length P → best ≡ furthest P f
 foremost-all i best x f P h b e = furthest-is P f best (subst (λ n. Best (λ j. failing f (clause-at P j)) n best) e (x f P h b))

@@ -1,6 +1,8 @@
 // Why no clause fits (document 02, C-19): "the clause that got furthest (lowest number on equal counts)" and the argument at which its
 // head fails. A head begins with the word of its predicate and arity; one of another takes no part.
 use crate::pair;
+use words::lists::find;
+use words::lists::find_next;
 use words::shelf::HEAD;
 use words::shelf::START;
 use words::shelf::clauses;
@@ -80,10 +82,11 @@ pub fn furthest(
         clause: 0,
         argument: 0,
     };
-    let mut i = 0;
+    let u = word(formula, 0);
+    let mut i = find(book, shelf, u, 0);
     while i < n {
         best = weigh(formula, book, shelf, i, best, words, rows);
-        i += 1;
+        i = find_next(book, shelf, u, i);
     }
     best
 }

@@ -1,5 +1,5 @@
 -- One clause by itself, by the book's own shelf.
-use Prim.Native.Nat.{ℕ, zero, suc, _+_, _*_, _-_, _≤_, _<_}
+use Prim.Native.Nat.{ℕ, zero, suc, _+_, _*_, _-_, _%_, _≤_, _<_}
 use native.Mathlib.Omega.{arith}
 use mathlib.Core.Path.{_≡_, refl, sym as inv, ap, _∙_, subst}
 use mathlib.Core.Bool.{false, true≢false}
@@ -15,6 +15,7 @@ use Rattle.search.specs.SingleLaws.{clauses-drop}
 use Rattle.words.specs.Columns.{every, every-length, every-at}
 use Rattle.words.specs.Held.{GoalIn, Placed, starts, heads, bodies, BookOn}
 use Rattle.words.specs.HeldLaws.{clauses-of}
+use Rattle.words.specs.Linked.{cut-lists}
 use Rattle.picking.specs.Picking.{Picked}
 use Rattle.resolve.specs.declared.Move.{Move}
 use Rattle.resolve.specs.declared.Move.the-variants.{Stuck, Unknown, Full, Over, To}
@@ -26,40 +27,44 @@ clause-take : (n : ℕ) (P : Book) (i : ℕ) → i < n → clause-at (take n P) 
 clause-take n P i l = getD-take n P i no-clause l
 
 -- a number of the rows that are left
-cut-entry : (shelf : List ℕ) (n m r j i : ℕ) → i < n → i < m → j < 3 → 3 * i + j < r → getD (every 3 j n (take r shelf)) i 0 ≡ getD (every 3 j m shelf) i 0
-cut-entry shelf n m r j i a b c l = every-at 3 j n (take r shelf) i a ∙ getD-take r shelf (3 * i + j) 0 l ∙ inv (every-at 3 j m shelf i b)
+cut-entry : (shelf : List ℕ) (n m r j i : ℕ) → i < n → i < m → 4 * i + j < r → getD (every 4 j n (take r shelf)) i 0 ≡ getD (every 4 j m shelf) i 0
+cut-entry shelf n m r j i a b l = every-at 4 j n (take r shelf) i a ∙ getD-take r shelf (4 * i + j) 0 l ∙ inv (every-at 4 j m shelf i b)
 
 module _ {book shelf : List ℕ} {P : Book} (b : BookOn book shelf P) (k : ℕ) (l : k < length P) where
   pub first-clauses : length (take (suc k) P) ≡ suc k
   first-clauses = length-take-le (suc k) P l
 
-  pub cut-shelf : BookOn book (take (3 * k + 6) shelf) (take (suc k) P)
+  pub cut-shelf : BookOn book (take (4 * k + 264) shelf) (take (suc k) P)
   cut-shelf = record {
-    long = length-take-le (3 * k + 6) shelf (omega (arith, b .long)) ∙ omega (arith, first-clauses);
+    long = length-take-le (4 * k + 264) shelf (omega (arith, b .long)) ∙ omega (arith, first-clauses);
     held = record {
       count = refl;
       few = omega (arith, first-clauses, b .held .few);
-      startsLength = omega (arith, every-length 3 0 (suc n) cut);
-      headsLength = omega (arith, every-length 3 1 n cut);
-      bodiesLength = omega (arith, every-length 3 2 n cut);
+      startsLength = omega (arith, every-length 4 256 (suc n) cut);
+      headsLength = omega (arith, every-length 4 257 n cut);
+      bodiesLength = omega (arith, every-length 4 258 n cut);
       placed = λ i h. placed i h;
     };
+    linked = cut-lists (omega (arith, first-clauses))
+        (λ x h. ap (λ y. getD book y 0 % 256) (cut-entry shelf (suc n) (suc (length P)) (4 * k + 264) 256 x (omega arith) (omega (arith, first-clauses)) (omega (arith, first-clauses))))
+        (λ h b. getD-take (4 * k + 264) shelf h 0 (omega arith))
+        (λ x h. cut-entry shelf n (length P) (4 * k + 264) 259 x h (omega (arith, first-clauses)) (omega (arith, first-clauses))) (b .linked);
   }
     where
       n : ℕ
       n = length (take (suc k) P)
 
       cut : List ℕ
-      cut = take (3 * k + 6) shelf
+      cut = take (4 * k + 264) shelf
 
       placed : (i : ℕ) → i < n → Placed book (getD (starts n cut) i 0) (getD (heads n cut) i 0) (getD (starts n cut) (suc i) 0) (getD (bodies n cut) i 0) (clause-at (take (suc k) P) i)
       placed i h =
           let u : i < suc k = omega (arith, first-clauses) in
           rw (
-            cut-entry shelf (suc n) (suc (length P)) (3 * k + 6) 0 i (omega arith) (omega arith) (omega arith) (omega arith),
-            cut-entry shelf n (length P) (3 * k + 6) 1 i h (omega arith) (omega arith) (omega arith),
-            cut-entry shelf (suc n) (suc (length P)) (3 * k + 6) 0 (suc i) (omega arith) (omega arith) (omega arith) (omega arith),
-            cut-entry shelf n (length P) (3 * k + 6) 2 i h (omega arith) (omega arith) (omega arith),
+            cut-entry shelf (suc n) (suc (length P)) (4 * k + 264) 256 i (omega arith) (omega arith) (omega arith),
+            cut-entry shelf n (length P) (4 * k + 264) 257 i h (omega arith) (omega arith),
+            cut-entry shelf (suc n) (suc (length P)) (4 * k + 264) 256 (suc i) (omega arith) (omega arith) (omega arith),
+            cut-entry shelf n (length P) (4 * k + 264) 258 i h (omega arith) (omega arith),
             clause-take (suc k) P i u,
           ) (b .held .placed i (omega arith))
 

@@ -92,7 +92,7 @@ fn from_bytes(
 {
     let clauses = open_book(book, words, shelf);
     let opened = open_row(query, goal);
-    let used = 3 * clauses + 3;
+    let used = 4 * clauses + 260;
     let e = from_goal(
         words,
         &shelf[..used],
@@ -117,7 +117,7 @@ fn from_good(book: &[u8], query: &[u8], budget: u32, area: &mut [u8], answer: &m
     ensures { λ r. ⌜ Leaves (bookOf (now (book .entry))) (closing (now (book .entry)) (now (query .entry)) budget) (now (area .entry)) (now (answer .entry)) r (now (area .exit)) (now (answer .exit)) ⌝ }
 {
     let mut words = [0u32; 10922];
-    let mut shelf = [0u16; 1539];
+    let mut shelf = [0u16; 2308];
     let mut goal = [0u32; 8192];
     from_bytes(
         book,

@@ -155,7 +155,7 @@ fn from_bytes(
 {
     let clauses = open_book(book, words, shelf);
     let opened = open_query(query, goal);
-    let used = 3 * clauses + 3;
+    let used = 4 * clauses + 260;
     let n = opened.words;
     from_goal(
         words,
@@ -175,7 +175,7 @@ fn from_good(book: &[u8], query: &[u8], clause: u32, area: &mut [u8]) -> Stepped
     ensures { λ r. ⌜ Gives (apply-by (bookOf (now (book .entry))) (goalOf (now (query .entry))) clause) (now (area .entry)) r (now (area .exit)) ⌝ }
 {
     let mut words = [0u32; 10922];
-    let mut shelf = [0u16; 1539];
+    let mut shelf = [0u16; 2308];
     let mut goal = [0u32; 4096];
     from_bytes(book, query, clause, area, &mut words, &mut shelf, &mut goal)
 }

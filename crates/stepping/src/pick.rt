@@ -109,7 +109,7 @@ fn from_bytes(
 {
     let clauses = open_book(book, words, shelf);
     let opened = open_query(query, goal);
-    let used = 3 * clauses + 3;
+    let used = 4 * clauses + 260;
     let n = opened.words;
     from_goal(words, &shelf[..used], &goal[..n], opened.formulas)
 }
@@ -120,7 +120,7 @@ fn from_good(book: &[u8], query: &[u8]) -> Picked
     ensures { λ r. ⌜ r ≡ pickSaid (bookOf (now (book .entry))) (goalOf (now (query .entry))) (Pick.pick (bookOf (now (book .entry))) (goalOf (now (query .entry)))) ⌝ }
 {
     let mut words = [0u32; 10922];
-    let mut shelf = [0u16; 1539];
+    let mut shelf = [0u16; 2308];
     let mut goal = [0u32; 4096];
     from_bytes(book, query, &mut words, &mut shelf, &mut goal)
 }

@@ -1,29 +1,26 @@
 -- One clause after another, behind the row.
 use Prim.Native.Nat.{ℕ, suc, _+_, _-_, _<_, _≤_}
 use native.Mathlib.Omega.{arith}
-use mathlib.Core.Path.{_≡_, refl, sym as inv, ap, ap₂, _∙_, subst}
-use mathlib.Core.Bool.{Bool, true}
+use mathlib.Core.Path.{_≡_, refl, sym as inv, ap, _∙_, subst}
 use mathlib.Core.List.{List, [], _∷_, _++_, map}
-use lib.ListN.{length, getD, take, drop, length-append, length-map, length-drop}
-use lib.Seq.{take-take, take-at, length-take-le, getD-take, getD-drop}
-use native.Mathlib.Decide.{ℕ-discrete, decLt}
+use lib.ListN.{length, getD, take, drop, length-drop}
+use lib.Seq.{take-take, take-at, length-take-le, getD-take}
 use Rattle.terms.specs.Node.{Expr}
-use Rattle.search.specs.Next.{Clause, Book, Goal, Meets, clause-at}
+use Rattle.search.specs.Next.{Clause, Book, Goal, clause-at}
 use Rattle.words.specs.Columns.{every}
-use Rattle.words.specs.Held.{GoalIn, ClauseIn, RowIn, Placed, BookOn, starts, heads, bodies}
-use Rattle.words.specs.HeldLaws.{formula-in, first-length, headed}
+use Rattle.words.specs.Held.{GoalIn, ClauseIn, RowIn, BookOn, starts, heads, bodies}
+use Rattle.words.specs.HeldLaws.{formula-in, first-length}
 use Rattle.picking.specs.Laying.{moved, Appended}
-use Rattle.picking.specs.Picking.{Sifted, head-at}
 use Rattle.heap.specs.Heap.{Whole, Made}
 use Rattle.matching.specs.TrialLaws.{Free}
-use Rattle.trying.specs.Trying.{Attempted, Fronted, clause-words, laid, Held-trial, Tested, Skipped, Sought}
+use Rattle.trying.specs.Trying.{Attempted, Fronted, clause-words, laid, Held-trial, Tested, Sought}
 use Rattle.trying.specs.declared.Attempt.{Attempt}
 use Rattle.trying.specs.declared.Attempt.the-variants.{Fits, Clash, Tired}
-use Rattle.trying.specs.declared.Found.the-variants as Found
-use Rattle.picking.proofs.Picks.{Passed, passed-more, picked-here, head-here}
-use Rattle.picking.proofs.Sifts.{same-predicate}
+use Rattle.trying.specs.declared.Found.the-variants as Seen
+use Rattle.words.specs.Lists.{Found}
+use Rattle.picking.proofs.Picks.{Passed, passed-more, passed-found, picked-here}
 use Rattle.terms.specs.RowLaws.{row-long as row-long′}
-use Rattle.trying.proofs.Heaps.{row-small, heap-made, formula-whole, head-whole, meets-there, none-there}
+use Rattle.trying.proofs.Heaps.{heap-made, formula-whole, head-whole, meets-there, none-there}
 
 part-front : (m : ℕ) (l : List ℕ) → take (m - 0) (drop 0 l) ≡ take m l
 part-front m l = let n : m - 0 ≡ m = omega arith in ap (λ n. take n l) n
@@ -54,8 +51,8 @@ module _ {words : List ℕ} {n m : ℕ} {f : Expr} {g a : Goal} (x : Fronted wor
       (formula-in (take (x .goal) row) (x .formulas) f g (x .row .goal) m (x .first))
 
 -- where the clause number i stands
-module _ {book shelf : List ℕ} {P : Book} (o : BookOn book shelf P) (i s t : ℕ) (l : i < length P) (es : (n : ℕ) → i < n → s ≡ getD (every 3 0 n shelf) i 0)
-    (et : (n : ℕ) → i + 1 < n → t ≡ getD (every 3 0 n shelf) (i + 1) 0) where
+module _ {book shelf : List ℕ} {P : Book} (o : BookOn book shelf P) (i s t : ℕ) (l : i < length P) (es : (n : ℕ) → i < n → s ≡ getD (every 4 256 n shelf) i 0)
+    (et : (n : ℕ) → i + 1 < n → t ≡ getD (every 4 256 n shelf) (i + 1) 0) where
   pub clause-is : take (t - s) (drop s book) ≡ clause-words book shelf (length P) i
   clause-is = let next : i + 1 ≡ suc i = omega arith in rw (es (suc (length P)) (omega arith), et (suc (length P)) (omega arith), next) refl
 
@@ -66,8 +63,8 @@ module _ {book shelf : List ℕ} {P : Book} (o : BookOn book shelf P) (i s t : �
   clause-ends =
       let next : i + 1 ≡ suc i = omega arith in
       let d = o .held .placed i l in (
-        omega (arith, d .begins, d .ends, es (suc (length P)) (omega arith), et (suc (length P)) (omega arith) ∙ ap (λ j. getD (every 3 0 (suc (length P)) shelf) j 0) next),
-        omega (arith, d .within, et (suc (length P)) (omega arith) ∙ ap (λ j. getD (every 3 0 (suc (length P)) shelf) j 0) next),
+        omega (arith, d .begins, d .ends, es (suc (length P)) (omega arith), et (suc (length P)) (omega arith) ∙ ap (λ j. getD (every 4 256 (suc (length P)) shelf) j 0) next),
+        omega (arith, d .within, et (suc (length P)) (omega arith) ∙ ap (λ j. getD (every 4 256 (suc (length P)) shelf) j 0) next),
       )
 
 -- the clause is put behind the row
@@ -115,7 +112,7 @@ fronted-still {words} {n} {f = f} {g} {a} x z e l = record { goal = x .goal; for
 
 -- one trial after those that failed
 module _ (P : Book) (f : Expr) (book shelf row row₀ z cells tables : List ℕ) (n i : ℕ) (v : Attempt) (t : Tested f (clause-at P i) row (clause-words book shelf (length P) i) z cells tables n v) where
-  pub found-here : (count : ℕ) → v ≡ Fits count → row ≡ row₀ → i < length P → Passed f P 0 i → Sought P f book shelf row₀ z cells tables n (Found.Clause i count)
+  pub found-here : (count : ℕ) → v ≡ Fits count → row ≡ row₀ → i < length P → Passed f P 0 i → Sought P f book shelf row₀ z cells tables n (Seen.Clause i count)
   found-here count e r l p =
       let y = subst (Tested f (clause-at P i) row (clause-words book shelf (length P) i) z cells tables n) e t in
       (picked-here f P 0 i (omega arith) l p (y .0), l, subst (λ w. Held-trial w (clause-words book shelf (length P) i) z cells tables n count) r (y .1))
@@ -129,40 +126,9 @@ module _ (P : Book) (f : Expr) (book shelf row row₀ z cells tables : List ℕ)
   pub freed-tired : v ≡ Tired → Free cells
   freed-tired e = subst (Tested f (clause-at P i) row (clause-words book shelf (length P) i) z cells tables n) e t
 
--- clauses of another predicate, or another arity
-module _ {book shelf : List ℕ} {P : Book} (o : BookOn book shelf P) where
-  -- where the head of the clause number j begins
-  pub head-first : (j : ℕ) → j < length P → getD (head-at book shelf (length P) j) 0 0 ≡ getD book (getD (starts (length P) shelf) j 0) 0
-  head-first j l =
-      let s = getD (starts (length P) shelf) j 0 in
-      let e = getD (heads (length P) shelf) j 0 in
-      let z : s + 0 ≡ s = omega arith in
-      getD-take (e - s) (drop s book) 0 0 (omega (arith, o .held .placed j l .begins)) ∙ getD-drop s book 0 0 ∙ ap (λ i. getD book i 0) z
-
-  pub start-inside : (j s : ℕ) → j < length P → ((n : ℕ) → j < n → s ≡ getD (every 3 0 n shelf) j 0) → s < length book
-  start-inside j s l e = let d = o .held .placed j l in omega (arith, e (suc (length P)) (omega (arith, l)), d .begins, d .ends, d .within)
-
-  pub skip-one : {u from i : ℕ} → Skipped P book shelf u from i → i < length P → (s w : ℕ) → ((n : ℕ) → i < n → s ≡ getD (every 3 0 n shelf) i 0) → w ≡ getD book s 0 → (w ≡ u → ⊥) → (k : ℕ) → k ≡ i + 1
-      → Skipped P book shelf u from k
-  skip-one {u} {from} {i} x l s w es ew n k ek = record {
-    low = omega (arith, x .low, ek);
-    high = omega (arith, l, ek);
-    other = λ j a b t. elim (ℕ-discrete j i) [
-      | yes e ↦ n (ew ∙ ap (λ y. getD book y 0) (es (suc (length P)) (omega (arith, l)) ∙ ap (λ y. getD (starts (length P) shelf) y 0) (inv e)) ∙ t)
-      | no d ↦ x .other j a (omega (arith, b, ek, d)) t
-    ];
-  }
-
-  pub passed-skip : {words : List ℕ} {n m : ℕ} {f : Expr} {g a : Goal} → Fronted words n m f g a → {u i r : ℕ} → u ≡ getD words 0 0 → Skipped P book shelf u i r → Passed f P 0 i → Passed f P 0 r
-  passed-skip {words} {n} {m} {f} x {u} {i} {r} eu s p j a b t = elim (decLt j i) [
-    | yes l ↦ p j a l t
-    | no h ↦
-        let l : j < length P = omega (arith, b, s .high) in
-        let z : m - 0 ≡ m = omega arith in
-        let q = formula-words x in
-        s .other j (omega (arith, h)) b
-        (inv (head-first j l) ∙ inv (same-predicate (clause-at P j) q (head-here o j l) t) ∙ getD-take (m - 0) (drop 0 words) 0 0 (omega (arith, z, first-some x)) ∙ inv eu)
-  ]
-    where
-      first-some : {words : List ℕ} {n m : ℕ} {f : Expr} {g a : Goal} → Fronted words n m f g a → 0 < m
-      first-some x = omega (arith, x .first, row-long′ (x .row .goal .formulas .0))
+-- on to the next clause of the formula's predicate and arity
+pub passed-on : {book shelf : List ℕ} {P : Book} → BookOn book shelf P → {words : List ℕ} {n m : ℕ} {f : Expr} {g a : Goal} → Fronted words n m f g a → {u i r : ℕ} → u ≡ getD words 0 0 → Found book shelf P u i r
+    → Passed f P 0 i → Passed f P 0 r
+passed-on o {words} {m = m} x eu s =
+    let z : m - 0 ≡ m = omega arith in
+    passed-found o (formula-words x) (eu ∙ inv (getD-take (m - 0) (drop 0 words) 0 0 (omega (arith, z, x .first, row-long′ (x .row .goal .formulas .0))))) s

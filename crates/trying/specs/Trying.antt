@@ -5,7 +5,7 @@ use mathlib.Core.List.{List, _∷_, _++_, map}
 use lib.ListN.{length, getD, take, drop}
 use Rattle.terms.specs.Subst.{Subst, Unifies, MostGeneral}
 use Rattle.terms.specs.Node.{Expr}
-use Rattle.search.specs.Next.{Clause, Book, Goal, Meets, clause-at}
+use Rattle.search.specs.Next.{Clause, Book, Goal, Meets}
 use Rattle.words.specs.Held.{RowIn, starts}
 use Rattle.picking.specs.Laying.{moved}
 use Rattle.picking.specs.Picking.{Picked}
@@ -68,12 +68,6 @@ abbrev pub Tested : Expr → Clause → List ℕ → List ℕ → List ℕ → L
 Tested f c row clause words cells tables n (Fits count) = Meets f c × Held-trial row clause words cells tables n count
 Tested f c row clause words cells tables n Clash = (Meets f c → ⊥) × Free cells
 Tested f c row clause words cells tables n Tired = Free cells
-
--- the heads of the clauses from `from` to r, and not on, begin with another word than u
-pub record Skipped (P : Book) (book shelf : List ℕ) (u from r : ℕ) : Type 0 where
-  pub low : from ≤ r
-  pub high : r ≤ length P
-  pub other : (j : ℕ) → from ≤ j → j < r → getD book (getD (starts (length P) shelf) j 0) 0 ≡ u → ⊥
 
 -- the first clause that fits, and its trial; or nothing is known
 abbrev pub Sought : Book → Expr → List ℕ → List ℕ → List ℕ → List ℕ → List ℕ → List ℕ → ℕ → Found → Type 0

@@ -4,6 +4,8 @@ use matching::unifying::Tried;
 use matching::unifying::unify;
 use picking::append;
 use picking::told_apart;
+use words::lists::find;
+use words::lists::find_next;
 use words::shelf::HEAD;
 use words::shelf::START;
 use words::shelf::clauses;
@@ -18,7 +20,7 @@ ghost use Rattle.matching.specs.TrialLaws.{Free};
 ghost use Rattle.terms.specs.Node.{Expr};
 ghost use Rattle.search.specs.Next.{Book, Goal, clause-at};
 ghost use Rattle.words.specs.Held.{BookOn};
-ghost use Rattle.trying.specs.Trying.{Attempted, Fronted, clause-words, Tested, Skipped, Sought};
+ghost use Rattle.trying.specs.Trying.{Attempted, Fronted, clause-words, Tested, Sought};
 
 pub mod resetting; // no variable bound any more
 pub mod carrying; // the next goal and answer written
@@ -110,23 +112,6 @@ fn try_clause(
     try_rows(&words[0..r], cells, rows, n)
 }
 
-// The first clause from a number on whose head begins with the word u; how many clauses there are where there is none.
-fn skip(book: &[u32], shelf: &[u16], u: u32, from: usize) -> usize
-    requires { ⌜ ((P : Book) × BookOn (now book) (now shelf) P × (from ≤ length P)) ⌝ }
-    ensures { λ r. ⌜ ((P : Book) → BookOn (now (book .entry)) (now (shelf .entry)) P → Skipped P (now (book .entry)) (now (shelf .entry)) u from r) ⌝ }
-{
-    let all = clauses(shelf);
-    let mut i = from;
-    while i < all {
-        let s = entry(shelf, START, i);
-        if word(book, s) == u {
-            return i;
-        }
-        i += 1;
-    }
-    all
-}
-
 // The first clause that fits, by its number, and how many goal variables its trial has bound; or nothing is known.
 pub enum Found {
     Clause(usize, usize),
@@ -149,11 +134,11 @@ pub fn first_fit(
 {
     let all = clauses(shelf);
     let u = word(words, 0);
-    let mut i = skip(book, shelf, u, 0);
+    let mut i = find(book, shelf, u, 0);
     while i < all {
         match try_clause(book, shelf, words, n, m, i, cells, rows) {
             Attempt::Fits(count) => return Found::Clause(i, count),
-            Attempt::Clash => i = skip(book, shelf, u, i + 1),
+            Attempt::Clash => i = find_next(book, shelf, u, i),
             Attempt::Tired => return Found::Unsure,
         }
     }

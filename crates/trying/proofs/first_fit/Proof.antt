@@ -1,22 +1,22 @@
-use Prim.Native.Nat.{_+_, _-_, _≤_, _<_}
+use Prim.Native.Nat.{suc, _-_, _≤_, _<_}
 use native.Mathlib.Omega.{arith}
-use mathlib.Core.Path.{_≡_, refl, sym as inv, ap, _∙_}
+use mathlib.Core.Path.{_≡_, refl, sym as inv, _∙_}
 use lib.ListN.{length, take}
 use Rattle.terms.specs.Node.{Expr}
-use Rattle.search.specs.Next.{Book, Goal, clause-at}
+use Rattle.search.specs.Next.{Book, Goal}
 use Rattle.words.specs.Columns.{CELLS, WORDS}
 use Rattle.words.specs.Held.{BookOn}
 use Rattle.matching.specs.TrialLaws.{Free}
 use Rattle.trying.specs.Trying.{Fronted}
-use Rattle.picking.proofs.Picks.{Passed}
-use Rattle.trying.proofs.Tests.{fronted-still, found-here, passed-here, freed-clash, freed-tired, passed-skip}
+use Rattle.picking.proofs.Picks.{Passed, Begins, found-after}
+use Rattle.trying.proofs.Tests.{fronted-still, found-here, passed-here, freed-clash, freed-tired, passed-on}
 use borrow.Author.Needs.{needs}
 use Rattle.trying.proofs.first_fit.Statement.{statement}
 use Rattle.trying.proofs.first_fit.Tie as tie
 
 abbrev Inv-loop : tie.InvT-loop
 Inv-loop book shelf words₀ n m cells₀ rows₀ all u i₀ words cells rows i = (i ≤ all) × (length words ≡ WORDS) × (length cells ≡ 8256) × (length rows ≡ CELLS) × Free cells × (take n words ≡ take n words₀)
-    × ((P : Book) (f : Expr) (g a : Goal) → BookOn book shelf P → Fronted words₀ n m f g a → Passed f P 0 i)
+    × ((P : Book) (f : Expr) (g a : Goal) → BookOn book shelf P → Fronted words₀ n m f g a → Passed f P 0 i) × Begins book shelf u i
 
 abbrev μ-loop : tie.MeasureT-loop
 μ-loop book shelf words₀ n m cells₀ rows₀ all u i₀ words cells rows i = all - i
@@ -27,11 +27,11 @@ clauses-requires c κs = omega (arith, (c .before .before .before .before .befor
 word-requires : tie.Need-word-requires Inv-loop μ-loop
 word-requires c κs = omega (arith, c .before .before .before .before .before .before .before .pre .0 .0)
 
-skip-requires : tie.Need-skip-requires Inv-loop μ-loop
-skip-requires c κs = (_, (c .before .before .before .before .before .before .before .before .pre .1 .0 .1), omega arith)
+find-requires : tie.Need-find-requires Inv-loop μ-loop
+find-requires c κs = (_, (c .before .before .before .before .before .before .before .before .pre .1 .0 .1), omega arith)
 
 loop-holds : tie.Need-loop-holds Inv-loop μ-loop
-loop-holds c = (omega (arith, c .skip .ensures _ (c .before .before .before .before .before .before .before .before .before .pre .1 .0 .1) .high, c .before .before .before .clauses .ensures _ ((c .before .before .before .before .before .before .before .before .before .pre .1 .0 .1) .long)), c .before .before .before .before .before .before .before .before .before .pre .0 .0, c .before .before .before .before .before .before .before .before .before .pre .0 .1, c .before .before .before .before .before .before .before .before .before .pre .0 .2, c .before .before .before .before .before .before .before .before .before .pre .0 .3, refl, λ P f g a o x. passed-skip o x (c .before .word .ensures) (c .skip .ensures P o) (λ j b l. absurd (omega (arith, l))))
+loop-holds c = (omega (arith, c .find .ensures _ (c .before .before .before .before .before .before .before .before .before .pre .1 .0 .1) .high, c .before .before .before .clauses .ensures _ ((c .before .before .before .before .before .before .before .before .before .pre .1 .0 .1) .long)), c .before .before .before .before .before .before .before .before .before .pre .0 .0, c .before .before .before .before .before .before .before .before .before .pre .0 .1, c .before .before .before .before .before .before .before .before .before .pre .0 .2, c .before .before .before .before .before .before .before .before .before .pre .0 .3, refl, (λ P f g a o x. passed-on o x (c .before .word .ensures) (c .find .ensures P o) (λ j b l. absurd (omega (arith, l)))), λ P o. c .find .ensures P o .here)
 
 try-clause-requires : tie.Need-try-clause-requires Inv-loop μ-loop
 try-clause-requires c κs = ((c .before .before .before .before .loop .inv .1, c .before .before .before .before .loop .inv .2, c .before .before .before .before .loop .inv .3, c .before .before .before .before .loop .inv .4), ((_, (c .before .before .before .before .before .before .before .before .before .before .before .before .before .before .pre .1 .0 .1), omega (arith, c .before .before .before .loop-test .taken, c .before .before .before .before .before .before .before .before .clauses .ensures _ ((c .before .before .before .before .before .before .before .before .before .before .before .before .before .before .pre .1 .0 .1) .long))), (_, _, _, (fronted-still (c .before .before .before .before .before .before .before .before .before .before .before .before .before .before .pre .1 .1 .3) (c .before .before .before .before .loop .words) (c .before .before .before .before .loop .inv .5) (c .before .before .before .before .loop .inv .1 ∙ inv (c .before .before .before .before .before .before .before .before .before .before .before .before .before .before .pre .0 .0))))))
@@ -54,17 +54,14 @@ returns c = λ P f g a o x. let l : c .before .before .before .before .before .b
 enum-told : tie.Need-enum-told Inv-loop μ-loop
 enum-told c = search needs
 
-add-skip : tie.Need-add-skip Inv-loop μ-loop
-add-skip c = search needs
-
-skip-requires-2 : tie.Need-skip-requires-2 Inv-loop μ-loop
-skip-requires-2 c κs = (_, (c .before .before .before .before .before .before .before .before .before .before .before .before .before .before .before .before .before .before .before .before .before .before .before .pre .1 .0 .1), omega (arith, c .before .before .before .before .before .before .before .before .before .before .before .before .loop-test .taken, c .before .before .before .before .before .before .before .before .before .before .before .before .before .before .before .before .before .clauses .ensures _ ((c .before .before .before .before .before .before .before .before .before .before .before .before .before .before .before .before .before .before .before .before .before .before .before .pre .1 .0 .1) .long)))
+find-next-requires : tie.Need-find-next-requires Inv-loop μ-loop
+find-next-requires c κs = (_, (c .before .before .before .before .before .before .before .before .before .before .before .before .before .before .before .before .before .before .before .before .before .before .before .pre .1 .0 .1), omega (arith, c .before .before .before .before .before .before .before .before .before .before .before .before .loop-test .taken, c .before .before .before .before .before .before .before .before .before .before .before .before .before .before .before .before .before .clauses .ensures _ ((c .before .before .before .before .before .before .before .before .before .before .before .before .before .before .before .before .before .before .before .before .before .before .before .pre .1 .0 .1) .long)))
 
 loop-less : tie.Need-loop-less Inv-loop μ-loop
-loop-less c = omega (arith, c .skip2 .ensures _ (c .before .before .before .before .before .before .before .before .before .before .before .before .before .before .before .before .before .before .before .before .before .before .before .before .pre .1 .0 .1) .low, c .before .before .before .before .before .before .before .before .before .before .before .before .before .loop-test .taken)
+loop-less c = omega (arith, found-after (λ P o. c .before .before .before .before .before .before .before .before .before .before .before .before .before .before .before .before .before .before .clauses .ensures _ (o .long)) (c .before .before .before .before .before .before .before .before .before .before .before .before .before .loop-test .taken) (c .before .before .before .before .before .before .before .before .before .before .before .before .before .before .loop .inv .7) (c .find-next .ensures) _ (c .before .before .before .before .before .before .before .before .before .before .before .before .before .before .before .before .before .before .before .before .before .before .before .before .pre .1 .0 .1) .low, c .before .before .before .before .before .before .before .before .before .before .before .before .before .loop-test .taken)
 
 loop-again : tie.Need-loop-again Inv-loop μ-loop
-loop-again c = (omega (arith, c .skip2 .ensures _ (c .before .before .before .before .before .before .before .before .before .before .before .before .before .before .before .before .before .before .before .before .before .before .before .before .pre .1 .0 .1) .high, c .before .before .before .before .before .before .before .before .before .before .before .before .before .before .before .before .before .before .clauses .ensures _ ((c .before .before .before .before .before .before .before .before .before .before .before .before .before .before .before .before .before .before .before .before .before .before .before .before .pre .1 .0 .1) .long)), c .before .before .before .before .before .before .before .before .before .try-clause .kept .1 .1 .0 ∙ c .before .before .before .before .before .before .before .before .before .before .before .before .before .before .loop .inv .1, c .before .before .before .before .before .before .before .before .before .try-clause .kept .1 .1 .1 .1 .1 .1 .0 ∙ c .before .before .before .before .before .before .before .before .before .before .before .before .before .before .loop .inv .2, c .before .before .before .before .before .before .before .before .before .try-clause .kept .1 .1 .1 .1 .1 .1 .1 .0 ∙ c .before .before .before .before .before .before .before .before .before .before .before .before .before .before .loop .inv .3, freed-clash (c .before .before .before .before .before .before .before .before .before .before .before .before .before .before .before .before .before .before .before .before .before .before .before .before .pre .1 .0 .0) (c .before .before .before .before .before .before .before .before .before .before .before .before .before .before .before .before .before .before .before .before .before .before .before .before .pre .1 .1 .0) (c .before .before .before .before .before .before .before .before .before .before .before .before .before .before .before .before .before .before .before .before .before .before .before .before .args .book .now) (c .before .before .before .before .before .before .before .before .before .before .before .before .before .before .before .before .before .before .before .before .before .before .before .before .args .shelf .now) (take (c .before .before .before .before .before .before .before .before .before .before .before .before .before .before .before .before .before .before .before .before .before .before .before .before .args .n) (c .before .before .before .before .before .before .before .before .before .before .before .before .before .before .loop .words)) (take (c .before .before .before .before .before .before .before .before .before .before .before .before .before .before .before .before .before .before .before .before .before .before .before .before .args .n) (c .before .before .before .before .before .before .before .before .before .before .before .before .before .before .before .before .before .before .before .before .before .before .before .before .args .words .now)) (c .before .before .before .before .before .before .before .before .before .try-clause .last .1 .1 .0) (c .before .before .before .before .before .before .before .before .before .try-clause .last .1 .1 .1 .1 .1 .1 .0) (c .before .before .before .before .before .before .before .before .before .try-clause .last .1 .1 .1 .1 .1 .1 .1 .0) (c .before .before .before .before .before .before .before .before .before .before .before .before .before .before .before .before .before .before .before .before .before .before .before .before .args .n) (c .before .before .before .before .before .before .before .before .before .before .before .before .before .before .loop .i) (c .before .before .before .before .before .before .before .before .before .try-clause .result) (c .before .before .before .before .before .before .before .before .before .try-clause .ensures .1 (c .before .before .before .before .before .before .before .before .before .before .before .before .before .before .before .before .before .before .before .before .before .before .before .before .pre .1 .0 .0) _ _ _ (c .before .before .before .before .before .before .before .before .before .before .before .before .before .before .before .before .before .before .before .before .before .before .before .before .pre .1 .0 .1) (omega (arith, c .before .before .before .before .before .before .before .before .before .before .before .before .before .loop-test .taken, c .before .before .before .before .before .before .before .before .before .before .before .before .before .before .before .before .before .before .clauses .ensures _ ((c .before .before .before .before .before .before .before .before .before .before .before .before .before .before .before .before .before .before .before .before .before .before .before .before .pre .1 .0 .1) .long))) (fronted-still (c .before .before .before .before .before .before .before .before .before .before .before .before .before .before .before .before .before .before .before .before .before .before .before .before .pre .1 .1 .3) (c .before .before .before .before .before .before .before .before .before .before .before .before .before .before .loop .words) (c .before .before .before .before .before .before .before .before .before .before .before .before .before .before .loop .inv .5) (c .before .before .before .before .before .before .before .before .before .before .before .before .before .before .loop .inv .1 ∙ inv (c .before .before .before .before .before .before .before .before .before .before .before .before .before .before .before .before .before .before .before .before .before .before .before .before .pre .0 .0)))) (c .before .enum-told .given .1), c .before .before .before .before .before .before .before .before .before .try-clause .ensures .0 ∙ c .before .before .before .before .before .before .before .before .before .before .before .before .before .before .loop .inv .5, λ P f g a o x. let l : c .before .before .before .before .before .before .before .before .before .before .before .before .before .before .loop .i < length P = omega (arith, c .before .before .before .before .before .before .before .before .before .before .before .before .before .loop-test .taken, c .before .before .before .before .before .before .before .before .before .before .before .before .before .before .before .before .before .before .clauses .ensures _ (o .long)) in passed-skip o x (c .before .before .before .before .before .before .before .before .before .before .before .before .before .before .before .before .word .ensures) (c .skip2 .ensures P o) (passed-here P f (c .before .before .before .before .before .before .before .before .before .before .before .before .before .before .before .before .before .before .before .before .before .before .before .before .args .book .now) (c .before .before .before .before .before .before .before .before .before .before .before .before .before .before .before .before .before .before .before .before .before .before .before .before .args .shelf .now) (take (c .before .before .before .before .before .before .before .before .before .before .before .before .before .before .before .before .before .before .before .before .before .before .before .before .args .n) (c .before .before .before .before .before .before .before .before .before .before .before .before .before .before .loop .words)) (take (c .before .before .before .before .before .before .before .before .before .before .before .before .before .before .before .before .before .before .before .before .before .before .before .before .args .n) (c .before .before .before .before .before .before .before .before .before .before .before .before .before .before .before .before .before .before .before .before .before .before .before .before .args .words .now)) (c .before .before .before .before .before .before .before .before .before .try-clause .last .1 .1 .0) (c .before .before .before .before .before .before .before .before .before .try-clause .last .1 .1 .1 .1 .1 .1 .0) (c .before .before .before .before .before .before .before .before .before .try-clause .last .1 .1 .1 .1 .1 .1 .1 .0) (c .before .before .before .before .before .before .before .before .before .before .before .before .before .before .before .before .before .before .before .before .before .before .before .before .args .n) (c .before .before .before .before .before .before .before .before .before .before .before .before .before .before .loop .i) (c .before .before .before .before .before .before .before .before .before .try-clause .result) (c .before .before .before .before .before .before .before .before .before .try-clause .ensures .1 P f g a o l (fronted-still x (c .before .before .before .before .before .before .before .before .before .before .before .before .before .before .loop .words) (c .before .before .before .before .before .before .before .before .before .before .before .before .before .before .loop .inv .5) (c .before .before .before .before .before .before .before .before .before .before .before .before .before .before .loop .inv .1 ∙ inv (c .before .before .before .before .before .before .before .before .before .before .before .before .before .before .before .before .before .before .before .before .before .before .before .before .pre .0 .0)))) (c .before .enum-told .given .1) (c .before .before .before .before .before .before .before .before .before .before .before .before .before .before .loop .inv .6 P f g a o x) _ refl))
+loop-again c = let y = found-after (λ P o. c .before .before .before .before .before .before .before .before .before .before .before .before .before .before .before .before .before .before .clauses .ensures _ (o .long)) (c .before .before .before .before .before .before .before .before .before .before .before .before .before .loop-test .taken) (c .before .before .before .before .before .before .before .before .before .before .before .before .before .before .loop .inv .7) (c .find-next .ensures) in (omega (arith, y _ (c .before .before .before .before .before .before .before .before .before .before .before .before .before .before .before .before .before .before .before .before .before .before .before .before .pre .1 .0 .1) .high, c .before .before .before .before .before .before .before .before .before .before .before .before .before .before .before .before .before .before .clauses .ensures _ ((c .before .before .before .before .before .before .before .before .before .before .before .before .before .before .before .before .before .before .before .before .before .before .before .before .pre .1 .0 .1) .long)), c .before .before .before .before .before .before .before .before .before .try-clause .kept .1 .1 .0 ∙ c .before .before .before .before .before .before .before .before .before .before .before .before .before .before .loop .inv .1, c .before .before .before .before .before .before .before .before .before .try-clause .kept .1 .1 .1 .1 .1 .1 .0 ∙ c .before .before .before .before .before .before .before .before .before .before .before .before .before .before .loop .inv .2, c .before .before .before .before .before .before .before .before .before .try-clause .kept .1 .1 .1 .1 .1 .1 .1 .0 ∙ c .before .before .before .before .before .before .before .before .before .before .before .before .before .before .loop .inv .3, freed-clash (c .before .before .before .before .before .before .before .before .before .before .before .before .before .before .before .before .before .before .before .before .before .before .before .before .pre .1 .0 .0) (c .before .before .before .before .before .before .before .before .before .before .before .before .before .before .before .before .before .before .before .before .before .before .before .before .pre .1 .1 .0) (c .before .before .before .before .before .before .before .before .before .before .before .before .before .before .before .before .before .before .before .before .before .before .before .before .args .book .now) (c .before .before .before .before .before .before .before .before .before .before .before .before .before .before .before .before .before .before .before .before .before .before .before .before .args .shelf .now) (take (c .before .before .before .before .before .before .before .before .before .before .before .before .before .before .before .before .before .before .before .before .before .before .before .before .args .n) (c .before .before .before .before .before .before .before .before .before .before .before .before .before .before .loop .words)) (take (c .before .before .before .before .before .before .before .before .before .before .before .before .before .before .before .before .before .before .before .before .before .before .before .before .args .n) (c .before .before .before .before .before .before .before .before .before .before .before .before .before .before .before .before .before .before .before .before .before .before .before .before .args .words .now)) (c .before .before .before .before .before .before .before .before .before .try-clause .last .1 .1 .0) (c .before .before .before .before .before .before .before .before .before .try-clause .last .1 .1 .1 .1 .1 .1 .0) (c .before .before .before .before .before .before .before .before .before .try-clause .last .1 .1 .1 .1 .1 .1 .1 .0) (c .before .before .before .before .before .before .before .before .before .before .before .before .before .before .before .before .before .before .before .before .before .before .before .before .args .n) (c .before .before .before .before .before .before .before .before .before .before .before .before .before .before .loop .i) (c .before .before .before .before .before .before .before .before .before .try-clause .result) (c .before .before .before .before .before .before .before .before .before .try-clause .ensures .1 (c .before .before .before .before .before .before .before .before .before .before .before .before .before .before .before .before .before .before .before .before .before .before .before .before .pre .1 .0 .0) _ _ _ (c .before .before .before .before .before .before .before .before .before .before .before .before .before .before .before .before .before .before .before .before .before .before .before .before .pre .1 .0 .1) (omega (arith, c .before .before .before .before .before .before .before .before .before .before .before .before .before .loop-test .taken, c .before .before .before .before .before .before .before .before .before .before .before .before .before .before .before .before .before .before .clauses .ensures _ ((c .before .before .before .before .before .before .before .before .before .before .before .before .before .before .before .before .before .before .before .before .before .before .before .before .pre .1 .0 .1) .long))) (fronted-still (c .before .before .before .before .before .before .before .before .before .before .before .before .before .before .before .before .before .before .before .before .before .before .before .before .pre .1 .1 .3) (c .before .before .before .before .before .before .before .before .before .before .before .before .before .before .loop .words) (c .before .before .before .before .before .before .before .before .before .before .before .before .before .before .loop .inv .5) (c .before .before .before .before .before .before .before .before .before .before .before .before .before .before .loop .inv .1 ∙ inv (c .before .before .before .before .before .before .before .before .before .before .before .before .before .before .before .before .before .before .before .before .before .before .before .before .pre .0 .0)))) (c .before .enum-told .given .1), c .before .before .before .before .before .before .before .before .before .try-clause .ensures .0 ∙ c .before .before .before .before .before .before .before .before .before .before .before .before .before .before .loop .inv .5, (λ P f g a o x. let l : c .before .before .before .before .before .before .before .before .before .before .before .before .before .before .loop .i < length P = omega (arith, c .before .before .before .before .before .before .before .before .before .before .before .before .before .loop-test .taken, c .before .before .before .before .before .before .before .before .before .before .before .before .before .before .before .before .before .before .clauses .ensures _ (o .long)) in passed-on o x (c .before .before .before .before .before .before .before .before .before .before .before .before .before .before .before .before .word .ensures) (y P o) (passed-here P f (c .before .before .before .before .before .before .before .before .before .before .before .before .before .before .before .before .before .before .before .before .before .before .before .before .args .book .now) (c .before .before .before .before .before .before .before .before .before .before .before .before .before .before .before .before .before .before .before .before .before .before .before .before .args .shelf .now) (take (c .before .before .before .before .before .before .before .before .before .before .before .before .before .before .before .before .before .before .before .before .before .before .before .before .args .n) (c .before .before .before .before .before .before .before .before .before .before .before .before .before .before .loop .words)) (take (c .before .before .before .before .before .before .before .before .before .before .before .before .before .before .before .before .before .before .before .before .before .before .before .before .args .n) (c .before .before .before .before .before .before .before .before .before .before .before .before .before .before .before .before .before .before .before .before .before .before .before .before .args .words .now)) (c .before .before .before .before .before .before .before .before .before .try-clause .last .1 .1 .0) (c .before .before .before .before .before .before .before .before .before .try-clause .last .1 .1 .1 .1 .1 .1 .0) (c .before .before .before .before .before .before .before .before .before .try-clause .last .1 .1 .1 .1 .1 .1 .1 .0) (c .before .before .before .before .before .before .before .before .before .before .before .before .before .before .before .before .before .before .before .before .before .before .before .before .args .n) (c .before .before .before .before .before .before .before .before .before .before .before .before .before .before .loop .i) (c .before .before .before .before .before .before .before .before .before .try-clause .result) (c .before .before .before .before .before .before .before .before .before .try-clause .ensures .1 P f g a o l (fronted-still x (c .before .before .before .before .before .before .before .before .before .before .before .before .before .before .loop .words) (c .before .before .before .before .before .before .before .before .before .before .before .before .before .before .loop .inv .5) (c .before .before .before .before .before .before .before .before .before .before .before .before .before .before .loop .inv .1 ∙ inv (c .before .before .before .before .before .before .before .before .before .before .before .before .before .before .before .before .before .before .before .before .before .before .before .before .pre .0 .0)))) (c .before .enum-told .given .1) (c .before .before .before .before .before .before .before .before .before .before .before .before .before .before .loop .inv .6 P f g a o x) (suc (c .before .before .before .before .before .before .before .before .before .before .before .before .before .before .loop .i)) (omega arith))), λ P o. y P o .here)
 
 enum-told-2 : tie.Need-enum-told-2 Inv-loop μ-loop
 enum-told-2 c = search needs
@@ -101,7 +98,7 @@ first-fit-spec =
     μ-loop
     clauses-requires
     word-requires
-    skip-requires
+    find-requires
     loop-holds
     try-clause-requires
     enum-known-count
@@ -110,8 +107,7 @@ first-fit-spec =
     same-length-3
     returns
     enum-told
-    add-skip
-    skip-requires-2
+    find-next-requires
     loop-less
     loop-again
     enum-told-2
