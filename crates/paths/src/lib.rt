@@ -1,0 +1,1 @@
+// States of a run whose goal and answer stay on the heap.
