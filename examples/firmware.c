@@ -1,5 +1,5 @@
 /* What a firmware does: book and query from the serial lead, a goal area and an answer area of its own, one call, and the answer on the screen. The book is
-   examples/plant/rules, with constants and predicates numbered by first appearance. */
+   examples/small/rules, with constants and predicates numbered by first appearance. */
 #include <stdio.h>
 
 #include "pitxargole.h"

@@ -1,4 +1,4 @@
-/* The flat profile: a firmware whose rules have constants and variables only says what a book has, and refuses compound terms. The book is examples/plant/rules. */
+/* The flat profile: a firmware whose rules have constants and variables only says what a book has, and refuses compound terms. The book is examples/small/rules. */
 #include <stdio.h>
 
 #include "pitxargole_flat.h"

@@ -1,4 +1,4 @@
-/* The teaching mode: before each step the chosen rule is shown, and then it is used. The book is examples/plant/rules, with constants and predicates
+/* The teaching mode: before each step the chosen rule is shown, and then it is used. The book is examples/small/rules, with constants and predicates
    numbered by first appearance. */
 #include <stdio.h>
 
