@@ -8,7 +8,7 @@ const { join } = require("node:path");
 for (const part of ["engine", "notation", "answer", "circle"]) Object.assign(globalThis, require(`./${part}.js`));
 
 const [folder] = process.argv.slice(2);
-const plant = join(__dirname, "../../examples/plant");
+const plant = join(__dirname, "../../examples/small");
 const modules = { engine: readFileSync(join(folder, "engine.wasm")), trace: readFileSync(join(folder, "trace.wasm")) };
 const rules = readFileSync(join(plant, "rules"), "utf8");
 const queryOf = (name) => readFileSync(join(plant, `${name}.query`), "utf8").trim();
