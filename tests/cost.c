@@ -1,5 +1,5 @@
-/* cost SHAPE SIZE STEPS: a run from a goal of so many nodes (or levels) whose predicate no rule has (0), or that comes after one step to a goal of as many nodes whose
-   predicate no rule has (1). */
+/* cost SHAPE SIZE STEPS: a run from a goal of so many nodes (or levels, or formulas) whose predicate no rule has (0), or that comes after one step to a goal of as many nodes
+   whose predicate no rule has (1); of formulas each takes a step. */
 #include <stddef.h>
 #include <stdlib.h>
 #include <string.h>
@@ -48,10 +48,10 @@ static void variables(const char *letters) {
     for (; *letters; letters++) variable((unsigned)(*letters - 'a'));
 }
 
-/* The formulas that stand in the query's place are a clause of the book: its head, and a body of one. */
-static void clause(void) {
+/* The formulas that stand in the query's place are a clause of the book: its head, and a body of so many. */
+static void clause(unsigned body) {
     book[book_length++] = 5;
-    book[book_length++] = 1;
+    book[book_length++] = (uint8_t)body;
     memcpy(book + book_length, query, query_length);
     book_length += query_length;
     query_length = 0;
@@ -63,7 +63,7 @@ static void rule(const char *head, const char *body) {
     variables(head);
     formula(2, (int)strlen(body));
     variables(body);
-    clause();
+    clause(1);
     book[book_length++] = 7;
 }
 
@@ -136,7 +136,7 @@ static void doubled(unsigned levels) {
     constant(1);
     constant(1);
     variables("ab");
-    clause();
+    clause(1);
     formula(6, 7);
     compound(3, 1);
     variables("abcdefg");
@@ -148,23 +148,38 @@ static void doubled(unsigned levels) {
     twice("j");
     twice("k");
     variables("efg");
-    clause();
+    clause(1);
     formula(6, 7);
     constant(2);
     variables("abcdef");
     formula(1, 4);
     variables("cdef");
-    clause();
+    clause(1);
     rule("aabb", "");
     goal(1);
     formula(5, 0);
+}
+
+/* p(a), p(a), .., q by p(a): so many steps, and each leaves a goal that is shorter by one. */
+static void facts(unsigned formulas) {
+    before = steps ? formulas - 1 : 0;
+    formula(steps ? 1 : 4, 1);
+    constant(1);
+    clause(0);
+    book[book_length++] = 7;
+    goal(formulas + 1);
+    for (unsigned i = 0; i < formulas; i++) {
+        formula(1, 1);
+        constant(1);
+    }
+    formula(2, 0);
 }
 
 int main(int words, char **word) {
     static const struct {
         const char *name;
         void (*build)(unsigned);
-    } shapes[] = {{"deep", deep}, {"wide", wide}, {"named", named}, {"joined", joined}, {"doubled", doubled}};
+    } shapes[] = {{"deep", deep}, {"wide", wide}, {"named", named}, {"joined", joined}, {"doubled", doubled}, {"facts", facts}};
     if (words != 4) return 2;
     steps = (unsigned)atoi(word[3]);
     for (size_t i = 0; i < sizeof shapes / sizeof *shapes; i++) {

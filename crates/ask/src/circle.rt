@@ -6,8 +6,8 @@ use crate::out::number;
 use crate::out::say;
 use crate::out::steps;
 use crate::text::part;
+use picker::pick;
 use running::run;
-use stepping::pick::pick;
 
 // The step at which the circle is entered, how many steps it has, and whether it is to be drawn.
 pub(crate) struct Circle {

@@ -20,8 +20,8 @@ use Rattle.words.specs.WordLaws.{each-append, each-drop}
 use Rattle.words.specs.Flat.{flat, flat-append, flat-size}
 use Rattle.words.specs.Held.{FormulasIn, GoalIn, RowIn, BookOn}
 use Rattle.words.specs.HeldLaws.{behind-is, first-length, formula-in, clauses-of}
-use Rattle.resolve.proofs.Rooms.{fits-both, small-is}
-use Rattle.resolve.specs.Applying.{Store}
+use Rattle.applying.proofs.Rooms.{fits-both, small-is}
+use Rattle.applying.specs.Applying.{Store}
 use Rattle.resolve.specs.Advancing.{Advanced}
 use Rattle.resolve.specs.declared.Move.the-variants as Move
 use Rattle.fronts.specs.GroundLaws.{ground-next, ground-answer}

@@ -1,10 +1,10 @@
 // The step of a goal whose first formula has no variable: where what takes its place has none either, no variable of the rest is bound, and none gets
 // another number. So the rest of the goal and the answer stay where they are, and the step costs no more when they are long.
 use heap::SYMBOL;
+use keeping::lowest;
 use resolve::Move;
 use trying::stepping::Sides;
 use trying::stepping::advance;
-use words::word;
 ghost use mathlib.Core.Path.{_≡_};
 ghost use mathlib.Core.Bool.{true};
 ghost use mathlib.Core.List.{List, [], _∷_};
@@ -14,7 +14,7 @@ ghost use Rattle.terms.specs.Node.{Expr};
 ghost use Rattle.search.specs.Next.{Book, Goal};
 ghost use Rattle.words.specs.Word.{Valids};
 ghost use Rattle.words.specs.Held.{GoalIn, BookOn};
-ghost use Rattle.resolve.specs.Applying.{Store};
+ghost use Rattle.applying.specs.Applying.{Store};
 ghost use Rattle.resolve.specs.Advancing.{Advanced};
 ghost use Rattle.matching.specs.TrialLaws.{Free};
 ghost use Rattle.fronts.specs.Ground.{Ground};
@@ -25,13 +25,8 @@ fn bare(words: &[u32]) -> bool
     requires { ⌜ Valids (now words) ⌝ }
     ensures { λ r. ⌜ Bare (now (words .entry)) r ⌝ }
 {
-    let n = words.len();
-    let mut i = 0;
-    while i < n {
-        if word(words, i) < SYMBOL {
-            return false;
-        }
-        i += 1;
+    if lowest(words) < SYMBOL {
+        return false;
     }
     true
 }
@@ -80,8 +75,10 @@ fn by_itself(
     if bare(formula) {
         let sides = Sides {
             words: formula.len(),
+            first: formula.len(),
             formulas: 1,
             answers: 0,
+            numbered: false,
         };
         let next = advance(book, shelf, formula, sides, words, rows, out, cells);
         return settled(next, out);
@@ -176,8 +173,10 @@ pub fn go_on(
         Ahead::Unsure => {
             let sides = Sides {
                 words: task.words,
+                first: task.front,
                 formulas: task.formulas,
                 answers: task.answers,
+                numbered: task.numbered,
             };
             Going::Whole(advance(book, shelf, row, sides, words, rows, out, cells))
         }

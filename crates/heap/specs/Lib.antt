@@ -1,5 +1,5 @@
 -- The heap and what it means (Heap), node by node (HeapLaws); past bound variables (Following); walks over what rows stand for (Walking, WalkLaws); what is
--- written of them (Writing).
+-- written of them (Writing), node by node (WriteLaws, PartLaws), with symbols as they are (RunLaws).
 pub mod Heap
 pub mod HeapLaws
 pub mod SolvedLaws
@@ -10,3 +10,4 @@ pub mod WalkLaws
 pub mod Writing
 pub mod WriteLaws
 pub mod PartLaws
+pub mod RunLaws

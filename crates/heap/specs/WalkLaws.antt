@@ -48,12 +48,12 @@ module _ (levels : List ℕ) where
       go at (suc due) depth z n = absurd (omega arith)
 
   module _ (heap : List ℕ) where
-    settled-ahead : (θ : Subst) (at due depth : ℕ) → ahead heap levels θ (settled-at levels at due depth) ≡ apply θ (rows heap due at) ++ behind heap levels θ depth
+    pub settled-ahead : (θ : Subst) (at due depth : ℕ) → ahead heap levels θ (settled-at levels at due depth) ≡ apply θ (rows heap due at) ++ behind heap levels θ depth
     settled-ahead θ at (suc due) depth = refl
     settled-ahead θ at zero zero = refl
     settled-ahead θ at zero (suc n) = ap (λ e. apply θ e ++ behind heap levels θ (suc n)) (inv (rows-none heap at))
 
-    settled-ready : (at due depth : ℕ) → Whole heap due at → Levels heap levels depth → 2 * depth ≤ length levels → Ready heap levels (settled-at levels at due depth)
+    pub settled-ready : (at due depth : ℕ) → Whole heap due at → Levels heap levels depth → 2 * depth ≤ length levels → Ready heap levels (settled-at levels at due depth)
     settled-ready at (suc due) depth r l room = record { front = r; back = l; ended = λ e. absurd (omega arith); room = room }
     settled-ready at zero zero r l room = record { front = r; back = l; ended = λ e. refl; room = room }
     settled-ready at zero (suc n) r l room =

@@ -29,7 +29,7 @@ pub struct Seen {
 }
 
 // A level that is done gives way to the one before it.
-fn settled(levels: &[u16], w: Walk) -> Walk
+pub fn settled(levels: &[u16], w: Walk) -> Walk
     requires { ⌜ (w .depth < 32768) × (2 * w .depth ≤ length (now levels)) ⌝ }
     ensures { λ r. ⌜ r ≡ settled (now (levels .entry)) w ⌝ }
 {

@@ -33,7 +33,7 @@ pub fn put_bytes(area: &mut [u8], s: &[u8], start: usize, len: usize)
 }
 
 // A name with its number, at the area's front.
-fn put_entry(
+pub fn put_entry(
     area: &mut [u8],
     text: &[u8],
     kind: u8,

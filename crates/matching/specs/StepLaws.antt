@@ -1,12 +1,13 @@
 -- One pair of rows made equal.
 use Prim.Native.Nat.{ℕ, suc, _%_, _<_, _≤_}
 use native.Mathlib.Omega.{arith}
-use native.Mathlib.Decide.{decLt}
+use native.Mathlib.Decide.{ℕ-discrete, decLt}
 use borrow.Author.Tests.{lt-ltb, le-ltb}
 use mathlib.Core.Path.{_≡_, refl, sym as inv, ap, _∙_, subst}
 use mathlib.Core.Logic.{_↔_, inl, inr}
 use mathlib.Core.List.{List, [], _∷_, head-eq-of-cons-eq}
 use lib.ListN.{length, getD, set, length-set}
+use lib.Seq.{getD-set-same, getD-set-other}
 use Rattle.terms.specs.Node.{Symbol, var, sym, Expr}
 use Rattle.terms.specs.Subst.{In, Subst, apply, after, itself, only}
 use Rattle.words.specs.Word.{kindOf, arityOf, node}
@@ -39,6 +40,10 @@ module _ {heap cells : List ℕ} {p q : ℕ} (made : Made heap cells) {v r : ℕ
   more-bound low away = record {
     made = bind-made heap cells v r (b .free) (b .inside) made (b .whole) low;
     long = length-set cells v (suc r);
+    grows = λ u e. elim (ℕ-discrete u v) [
+      | yes z ↦ absurd (omega (arith, inv e ∙ ap (bound (set cells v (suc r))) z ∙ getD-set-same cells v (suc r) 0 (b .inside)))
+      | no n ↦ inv (getD-set-other cells v u (suc r) 0 n) ∙ e
+    ];
     solved = λ θ s. (after (only v (apply θ (rows heap 1 r))) θ, bind-solved heap cells v r (b .free) (b .inside) made s (b .whole) (away θ s));
     just = λ τ. (
       λ x. bind-iff heap cells v r (b .free) (b .inside) τ .0 (x .0, b .just τ (x .0) .0 (x .1)),
@@ -50,7 +55,7 @@ module _ (heap cells trail : List ℕ) (t : Trial) (p q : ℕ) (made : Made heap
   -- nothing is to be done
   pub step-same : Met heap cells p q Same → Stepped heap cells trail t p q cells trail (Step.Done (t .count) (t .fuel))
   step-same met = (
-    record { made = made; long = refl; solved = λ θ s. (θ, s); just = λ τ. (λ x. x .0, λ y. (y, met τ y)) },
+    record { made = made; long = refl; grows = λ v e. e; solved = λ θ s. (θ, s); just = λ τ. (λ x. x .0, λ y. (y, met τ y)) },
     record { trailed = λ before b. b; slow = omega arith; long = refl },
     omega arith,
   )

@@ -2,17 +2,18 @@
 use Prim.Native.Nat.{ℕ, suc, _+_, _-_, _<_, _≤_}
 use native.Mathlib.Omega.{arith}
 use mathlib.Core.Path.{_≡_, refl, sym as inv, ap, _∙_, subst}
-use mathlib.Core.Logic.{_↔_}
+use mathlib.Core.Logic.{_↔_, inl, inr}
 use mathlib.Core.List.{List}
 use lib.ListN.{length}
-use Rattle.terms.specs.Subst.{Subst}
-use Rattle.heap.specs.Heap.{Whole, Made, Solves, Solved}
+use Rattle.terms.specs.Subst.{In, Subst, apply, itself}
+use Rattle.terms.specs.SubstLaws.{apply-on, apply-itself}
+use Rattle.heap.specs.Heap.{rows, Whole, bound, Made, Solves, Solved}
 use Rattle.heap.specs.HeapLaws.{rows-few}
 use Rattle.matching.specs.Meeting.{Equal}
-use Rattle.matching.specs.Binding.{Trailed}
+use Rattle.matching.specs.Binding.{Trailed, trail-none}
 use Rattle.matching.specs.Pairs.{Equal-levels, Equal-all, Due, Behind, Settled, Entered}
 use Rattle.matching.specs.PairLaws.{none-due, first-row-whole}
-use Rattle.matching.specs.Unifying.{More, Kept-up, Stepped, Trail-kept, Unified}
+use Rattle.matching.specs.Unifying.{Unmixed, Begun, More, Kept-up, Stepped, Trail-kept, Unified}
 use Rattle.matching.specs.declared.pairs.Pairs.{Pairs}
 use Rattle.matching.specs.declared.unifying.Trial.{Trial}
 use Rattle.matching.specs.declared.unifying.Step.the-variants as Step
@@ -23,6 +24,7 @@ pub record Unifying (heap cells trail : List ℕ) (t : Trial) (p q : ℕ) (cells
   pub made : Made heap cells′
   pub long : length cells′ ≡ length cells
   pub trail-long : length trail′ ≡ length trail
+  pub grows : (v : ℕ) → bound cells′ v ≡ 0 → bound cells v ≡ 0
   pub solved : (θ : Subst) → Solved heap cells θ → (θ′ : Subst) × Solved heap cells′ θ′
   pub due : Due heap stack x
   pub ended : x .due ≡ 0 → x .depth ≡ 0
@@ -33,7 +35,7 @@ pub record Unifying (heap cells trail : List ℕ) (t : Trial) (p q : ℕ) (cells
 
 -- the trial t, further on
 abbrev now : Trial → ℕ → ℕ → Trial
-now t count fuel = record { base = t .base; count = count; fuel = fuel }
+now t count fuel = record { base = t .base; start = t .start; count = count; fuel = fuel }
 
 module _ {heap cells trail : List ℕ} {t : Trial} {p q : ℕ} where
   pub unify-start : {stack : List ℕ} → Made heap cells → Whole heap 1 p → Whole heap 1 q → Unifying heap cells trail t p q cells trail stack (t .count) (t .fuel) (record { p = p; q = q; due = 1; depth = 0 })
@@ -41,6 +43,7 @@ module _ {heap cells trail : List ℕ} {t : Trial} {p q : ℕ} where
     made = made;
     long = refl;
     trail-long = refl;
+    grows = λ v e. e;
     solved = λ θ s. (θ, s);
     due = record { left = l; right = r; back = λ i h. absurd (omega arith); room = omega arith };
     ended = λ e. absurd (omega arith);
@@ -58,6 +61,19 @@ module _ {heap cells trail : List ℕ} {t : Trial} {p q : ℕ} where
     pub first-pair : 0 < x .due → Whole heap 1 (x .p) × Whole heap 1 (x .q)
     first-pair l = (first-row-whole heap (x .due) (x .p) l (u .due .left), first-row-whole heap (x .due) (x .q) l (u .due .right))
 
+    -- as long as no goal variable is on the trail
+    pub still-unmixed : Begun heap cells t → (left : ℕ) → Unmixed heap cells′ (now t count left)
+    still-unmixed b left none v r high before whole θ s i =
+        let own : apply θ (rows heap 1 r) ≡ rows heap 1 r
+        = apply-on θ itself (rows heap 1 r) (λ y j. s .free y (unbound y (b .low r before whole y j))) ∙ apply-itself (rows heap 1 r) in
+        omega (arith, high, b .low r before whole v (subst (In v) own i))
+      where
+        unbound : (y : ℕ) → y < t .base → bound cells′ y ≡ 0
+        unbound y l = elim (u .trailed cells (subst (Trailed cells cells trail (t .base)) (inv (b .none)) (trail-none cells trail (t .base))) .kept y l) [
+          | inl e ↦ e ∙ b .free y l
+          | inr (z, (j, a, under, e)) ↦ absurd (omega (arith, under, none))
+        ]
+
     pub pair-few : x .due ≤ length heap
     pair-few = rows-few heap (x .due) (x .p) (u .due .left)
 
@@ -66,6 +82,7 @@ module _ {heap cells trail : List ℕ} {t : Trial} {p q : ℕ} where
       record {
         made = u .made;
         long = u .long;
+        grows = u .grows;
         solved = u .solved;
         just = λ τ. (λ y. u .just τ .0 y .0, λ y. u .just τ .1 (y, (none-due heap τ (x .p) (x .q) (x .due) none, subst (Equal-levels heap stack τ) (inv (u .ended none)) tt)));
       },
@@ -95,6 +112,7 @@ module _ {heap cells trail : List ℕ} {t : Trial} {p q : ℕ} where
         made = more .made;
         long = more .long ∙ u .long;
         trail-long = kept .long ∙ u .trail-long;
+        grows = λ v e. u .grows v (more .grows v e);
         solved = λ θ z. let (θ′, z′) = u .solved θ z in more .solved θ′ z′;
         due = s .due heap rest-due;
         ended = s .ended heap rest-due;
@@ -114,6 +132,7 @@ module _ {heap cells trail : List ℕ} {t : Trial} {p q : ℕ} where
         made = u .made;
         long = u .long;
         trail-long = u .trail-long;
+        grows = u .grows;
         solved = u .solved;
         due = s .due heap rest-due l r;
         ended = λ e. absurd (omega (arith, e, s .count, some));

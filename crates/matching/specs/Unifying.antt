@@ -21,10 +21,25 @@ use Rattle.matching.specs.declared.unifying.Step.the-variants.{Done, Ins
 use Rattle.matching.specs.declared.unifying.Tried.{Tried}
 use Rattle.matching.specs.declared.unifying.Tried.the-variants as Tried
 
+-- as long as no goal variable is bound, what stands before the clause has none of the clause's variables
+abbrev pub Unmixed : List ℕ → List ℕ → Trial → Type 0
+Unmixed heap cells t = t .count ≡ 0 → (v r : ℕ) → t .base ≤ v → r < t .start → Whole heap 1 r → (θ : Subst) → Solved heap cells θ → ¬ In v (apply θ (rows heap 1 r))
+
+-- rows that begin before the position `start` have variables below `base` alone
+abbrev pub Low : List ℕ → ℕ → ℕ → Type 0
+Low heap base start = (r : ℕ) → r < start → Whole heap 1 r → (v : ℕ) → In v (rows heap 1 r) → v < base
+
+-- a trial that begins: what stands before the clause has the goal's variables alone, and none of them is bound
+pub record Begun (heap cells : List ℕ) (t : Trial) : Type 0 where
+  pub none : t .count ≡ 0
+  pub free : (v : ℕ) → v < t .base → bound cells v ≡ 0
+  pub low : Low heap (t .base) (t .start)
+
 -- more is bound, and the rows at p and q are equal for it: for just those solutions of what was bound before that make them equal
 pub record More (heap cells : List ℕ) (p q : ℕ) (cells′ : List ℕ) : Type 0 where
   pub made : Made heap cells′
   pub long : length cells′ ≡ length cells
+  pub grows : (v : ℕ) → bound cells′ v ≡ 0 → bound cells v ≡ 0
   pub solved : (θ : Subst) → Solved heap cells θ → (θ′ : Subst) × Solved heap cells′ θ′
   pub just : (τ : Subst) → (Solves heap cells τ × Equal heap τ 1 p q) ↔ Solves heap cells′ τ
 

@@ -12,11 +12,14 @@ ghost use Prim.Native.Nat.{_+_, _<_, _≤_};
 ghost use lib.ListN.{length};
 ghost use Rattle.terms.specs.Subst.{Subst};
 ghost use Rattle.heap.specs.Heap.{Made, Solved, Whole};
-ghost use Rattle.matching.specs.Unifying.{Hung, Stepped, Unified};
+ghost use Rattle.matching.specs.Occurring.{Looked};
+ghost use Rattle.matching.specs.Unifying.{Unmixed, Begun, Hung, Stepped, Unified};
 
-// How a trial stands: where the clause's variables start, how many goal variables it has bound, and how many nodes it may still visit.
+// How a trial stands: the number that the clause's variables start from, where the clause starts on the heap, how many goal variables are bound by it, and
+// how many nodes it may still visit.
 pub struct Trial {
     pub base: usize,
+    pub start: usize,
     pub count: usize,
     pub fuel: usize,
 }
@@ -29,6 +32,23 @@ pub enum Step {
     Tired,
 }
 
+// Whether v is in what the row at r stands for. A row before the clause has none of the clause's variables as long as no goal variable is bound: then it is not
+// gone through.
+fn sought(heap: &[u32], cells: &[u16], levels: &mut [u16], t: Trial, v: usize, r: usize) -> Look
+    requires { ⌜ Made (now heap) (now cells) × Whole (now heap) 1 r × (v < 65536) × Unmixed (now heap) (now cells) t ⌝ }
+    requires { ⌜ (t .fuel ≤ 8448) × (514 ≤ length (now levels)) ⌝ }
+    ensures { λ z. ⌜ Looked (now (heap .entry)) (now (cells .entry)) v r (t .fuel) z ⌝ }
+{
+    if t.count == 0 {
+        if t.base <= v {
+            if r < t.start {
+                return Look::Away(t.fuel);
+            }
+        }
+    }
+    occurs(heap, cells, levels, v, r, t.fuel)
+}
+
 // The variable v on the symbol's row at r, if it is not in what that stands for.
 fn hang(
     heap: &[u32],
@@ -39,11 +59,11 @@ fn hang(
     v: usize,
     r: usize,
 ) -> Step
-    requires { ⌜ Made (now heap) (now cells) × ((θ : Subst) × Solved (now heap) (now cells) θ) × (length (now cells) ≤ 8256) ⌝ }
+    requires { ⌜ Made (now heap) (now cells) × ((θ : Subst) × Solved (now heap) (now cells) θ) × (length (now cells) ≤ 8256) × Unmixed (now heap) (now cells) t ⌝ }
     requires { ⌜ (t .fuel ≤ 8448) × (514 ≤ length (now levels)) × (t .count < length (now trail)) × (v < length (now cells)) × (r < length (now heap)) × Whole (now heap) 1 r ⌝ }
     ensures { λ z. ⌜ Hung (now (heap .entry)) (now (cells .entry)) (now (trail .entry)) t v r (now (cells .exit)) (now (trail .exit)) z ⌝ }
 {
-    match occurs(heap, cells, levels, v, r, t.fuel) {
+    match sought(heap, cells, levels, t, v, r) {
         Look::Away(left) => {
             let count = bind(cells, trail, t.base, t.count, v, r);
             Step::Done(count, left)
@@ -63,7 +83,7 @@ fn make(
     p: usize,
     q: usize,
 ) -> Step
-    requires { ⌜ Made (now heap) (now cells) × ((θ : Subst) × Solved (now heap) (now cells) θ) × (length (now cells) ≤ 8256) ⌝ }
+    requires { ⌜ Made (now heap) (now cells) × ((θ : Subst) × Solved (now heap) (now cells) θ) × (length (now cells) ≤ 8256) × Unmixed (now heap) (now cells) t ⌝ }
     requires { ⌜ (t .fuel ≤ 8448) × (514 ≤ length (now levels)) × (t .count < length (now trail)) × Whole (now heap) 1 p × Whole (now heap) 1 q ⌝ }
     ensures { λ z. ⌜ Stepped (now (heap .entry)) (now (cells .entry)) (now (trail .entry)) t p q (now (cells .exit)) (now (trail .exit)) z ⌝ }
 {
@@ -101,11 +121,12 @@ pub fn unify(
     p: usize,
     q: usize,
 ) -> Tried
-    requires { ⌜ Made (now heap) (now cells) × ((θ : Subst) × Solved (now heap) (now cells) θ) × (length (now cells) ≤ 8256) × Whole (now heap) 1 p × Whole (now heap) 1 q ⌝ }
+    requires { ⌜ Made (now heap) (now cells) × ((θ : Subst) × Solved (now heap) (now cells) θ) × (length (now cells) ≤ 8256) × Whole (now heap) 1 p × Whole (now heap) 1 q × Begun (now heap) (now cells) t ⌝ }
     requires { ⌜ (t .fuel ≤ 8448) × (514 ≤ length (now levels)) × (t .count + t .fuel ≤ length (now trail)) × (387 ≤ length (now stack)) ⌝ }
     ensures { λ z. ⌜ Unified (now (heap .entry)) (now (cells .entry)) (now (trail .entry)) t p q (now (cells .exit)) (now (trail .exit)) z ⌝ }
 {
     let base = t.base;
+    let start = t.start;
     let mut count = t.count;
     let mut fuel = t.fuel;
     let mut x = Pairs {
@@ -129,7 +150,12 @@ pub fn unify(
             cells,
             trail,
             levels,
-            Trial { base, count, fuel },
+            Trial {
+                base,
+                start,
+                count,
+                fuel,
+            },
             x.p,
             x.q,
         ) {

@@ -1,26 +1,15 @@
 // Reading and printing for C: "called from there with numbers and byte areas only".
-use numbers::pack;
 use printer::print_answer;
 use printer::print_book;
 use printer::print_goal;
-use printouts::Printout;
-use readouts::ReadText;
+use textnumbers::read_number;
+use textnumbers::text_number;
 use texts::read_text;
 ghost use mathlib.Core.Path.{_≡_};
 ghost use Rattle.printouts.specs.Outcome.{printAnswer, printArea, goalAnswer, goalArea};
 ghost use Rattle.printouts.specs.Answer.{foundAnswer, foundArea};
 ghost use Rattle.readouts.specs.Outcome.{readAnswer, readBook, readNames};
-ghost use Rattle.office.specs.Numbers.{TextNarrow, textNumber, ReadNarrow, readNumber};
-
-fn text_number(p: Printout) -> u64
-    requires { ⌜ TextNarrow p ⌝ }
-    ensures { λ r. ⌜ r ≡ textNumber p ⌝ }
-{
-    if p.code == 0 {
-        return pack(p.code, p.bytes as u32, 0);
-    }
-    pack(p.code, p.place as u32, 0)
-}
+ghost use Rattle.textnumbers.specs.Numbers.{textNumber, readNumber};
 
 #[no_mangle]
 pub extern "C" fn pitxargole_print_book(book: &[u8], names: &[u8], area: &mut [u8]) -> u64
@@ -54,16 +43,6 @@ pub extern "C" fn pitxargole_print_answer(
     ensures text { λ _. ⌜ now (area .exit) ≡ foundArea (now (book .entry)) (now (answer .entry)) (now (names .entry)) (now (area .entry)) ⌝ }
 {
     text_number(print_answer(book, answer, names, area))
-}
-
-fn read_number(r: ReadText) -> u64
-    requires { ⌜ ReadNarrow r ⌝ }
-    ensures { λ n. ⌜ n ≡ readNumber r ⌝ }
-{
-    if r.code == 0 {
-        return pack(r.code, r.book, r.names);
-    }
-    pack(r.code, r.place, r.names)
 }
 
 #[no_mangle]

@@ -12,8 +12,7 @@ use Rattle.heap.specs.SolvedLaws.{solved-general, solved-free, row-free}
 use Rattle.matching.specs.Meeting.{Equal}
 use Rattle.matching.specs.Unifying.{More}
 
-module _ (heap cells cells′ : List ℕ) (made : Made heap cells) {θ : Subst} (s : Solved heap cells θ) (p q : ℕ) (more : More heap cells p q cells′)
-    (grows : (v : ℕ) → bound cells′ v ≡ 0 → bound cells v ≡ 0) {θ′ : Subst} (s′ : Solved heap cells′ θ′) where
+module _ (heap cells cells′ : List ℕ) (made : Made heap cells) {θ : Subst} (s : Solved heap cells θ) (p q : ℕ) (more : More heap cells p q cells′) {θ′ : Subst} (s′ : Solved heap cells′ θ′) where
   abbrev chosen : ℕ → ℕ → Expr
   chosen zero v = θ′ v
   chosen (suc r) v = itself v
@@ -57,7 +56,7 @@ module _ (heap cells cells′ : List ℕ) (made : Made heap cells) {θ : Subst} 
         go : (b : ℕ) → bound cells v ≡ b → τ v ≡ apply τ (chosen b v)
         go zero e =
             inv (on-free v e) ∙ solved-general (more .made) s′ (after τ θ) both v
-            ∙ apply-on (after τ θ) τ (θ′ v) (λ w i. on-free w (grows w (solved-free (more .made) s′ v w i)))
+            ∙ apply-on (after τ θ) τ (θ′ v) (λ w i. on-free w (more .grows w (solved-free (more .made) s′ v w i)))
         go (suc r) e = inv (append-nil (τ v))
 
   pub newly-general : MostGeneral newly (apply θ (rows heap 1 p)) (apply θ (rows heap 1 q))

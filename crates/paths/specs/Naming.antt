@@ -14,8 +14,8 @@ use Rattle.terms.specs.Number.{place, seen-all, number-all}
 use Rattle.terms.specs.NumberLaws.{getD-place, in-seen-all, number-all-is-rename}
 use Rattle.search.specs.Next.{Clause, Goal, resolvent, Resolved}
 use Rattle.search.specs.NextLaws.{resolved-one}
-use Rattle.resolve.specs.Applying.{Onward}
-use Rattle.resolve.proofs.Onwards.{onward}
+use Rattle.applying.specs.Applying.{Onward}
+use Rattle.applying.proofs.Onwards.{onward}
 
 idle-all : (τ : ℕ → ℕ) (g : Goal) → ((v : ℕ) → In-any v g → τ v ≡ v) → map (rename τ) g ≡ g
 idle-all τ [] same = refl

@@ -51,6 +51,21 @@ frontAt s at F.HalfArrow = broken arrow
 frontAt s at F.HalfStop = broken stop
 frontAt s at F.Nothing = unexpected
 
+-- where a piece ends; of what is none, the byte behind
+abbrev pub endOf : ℕ → Found → ℕ
+endOf at (F.Name end) = end
+endOf at (F.Variable end) = end
+endOf at F.Space = at + 1
+endOf at (F.Comment end) = end
+endOf at F.Opening = at + 1
+endOf at F.Closing = at + 1
+endOf at F.Comma = at + 1
+endOf at F.Arrow = at + 2
+endOf at F.Stop = at + 1
+endOf at F.HalfArrow = at + 1
+endOf at F.HalfStop = at + 1
+endOf at F.Nothing = at + 1
+
 -- an end that is given lies behind the place, and not behind the text
 abbrev pub Inside : List ℕ → ℕ → Found → Type 0
 Inside s at (F.Name end) = (at < end) × (end ≤ length s)

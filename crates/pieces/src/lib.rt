@@ -5,7 +5,7 @@ ghost use lib.ListN.{length, drop};
 ghost use Rattle.grammar.specs.Byte.{small, capital, digit, goes-on, starts-variable, is-blank};
 ghost use Rattle.grammar.specs.Token.{after-stop};
 ghost use Rattle.grammar.specs.Front.{class, in-comment};
-ghost use Rattle.pieces.specs.Found.{classOf, Ends, stopFound, arrowFound, Shows};
+ghost use Rattle.pieces.specs.Found.{classOf, endOf, Ends, stopFound, arrowFound, Shows};
 
 // What a byte begins.
 pub enum Class {
@@ -217,5 +217,26 @@ pub fn piece_at(text: &[u8], at: usize) -> Found
         Class::Stop => stop_at(text, next),
         Class::Colon => arrow_at(text, next),
         Class::Other => Found::Nothing,
+    }
+}
+
+// Where a piece ends.
+pub fn end_of(found: Found, at: usize) -> usize
+    requires { ⌜ at < 65536 ⌝ }
+    ensures { λ r. ⌜ r ≡ endOf at found ⌝ }
+{
+    match found {
+        Found::Name(end) => end,
+        Found::Variable(end) => end,
+        Found::Space => at + 1,
+        Found::Comment(end) => end,
+        Found::Opening => at + 1,
+        Found::Closing => at + 1,
+        Found::Comma => at + 1,
+        Found::Arrow => at + 2,
+        Found::Stop => at + 1,
+        Found::HalfArrow => at + 1,
+        Found::HalfStop => at + 1,
+        Found::Nothing => at + 1,
     }
 }

@@ -1,18 +1,18 @@
 // The entries of the flat profile (document 02, C-20): the single step and the run behind the flat checks; for C firmware too. Each takes any arguments
 // and refuses what is not good.
+use endings::refused;
+use endings::shorter;
 use flatness::check_flat_query;
 use format::Check;
 use outcomes::Answer;
 use outcomes::Stepped;
 use outcomes::admit::Admitted;
-use running::refused;
 use running::run;
-use running::shorter;
 use stepping::step::not_stepped;
 use stepping::step::step;
 ghost use mathlib.Core.Path.{_≡_};
 ghost use Prim.Native.Nat.{_≤_};
-ghost use Rattle.profile.specs.Outcome.{flatStepAnswer, flatStepArea, flatRunAnswer, flatRunArea, flatRunAnswerArea};
+ghost use Rattle.flatly.specs.Outcome.{flatStepAnswer, flatStepArea, flatRunAnswer, flatRunArea, flatRunAnswerArea};
 
 pub mod firmware; // for C
 

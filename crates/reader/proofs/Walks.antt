@@ -35,7 +35,8 @@ use Rattle.reader.specs.declared.walking.Ended.{Ended}
 use Rattle.reader.specs.declared.walking.Ended.the-variants.{Refused, Read}
 use Rattle.reader.specs.Effect.{Effect, stays, argues, closes, stops, effect}
 use Rattle.reader.specs.Kept.{tablesOf, doneBytes, Kept, Numbered, Sofar, Turning, Built-on}
-use Rattle.reader.specs.Walking.{endOf, starting, ends, whole, Rules, Ends, Grown, Going}
+use Rattle.pieces.specs.Found.{endOf}
+use Rattle.reader.specs.Walking.{starting, ends, whole, Rules, Ends, Grown, Going}
 
 -- Rules only grow
 

@@ -20,20 +20,6 @@ use Rattle.reader.specs.declared.walking.Ended.the-variants.{Refused, Re
 use Rattle.reader.specs.Kept.{Kept, Sofar, Turning}
 use Rattle.reader.specs.declared.Turn.{Turn}
 
-abbrev pub endOf : ℕ → Found → ℕ
-endOf at (F.Name end) = end
-endOf at (F.Variable end) = end
-endOf at F.Space = at + 1
-endOf at (F.Comment end) = end
-endOf at F.Opening = at + 1
-endOf at F.Closing = at + 1
-endOf at F.Comma = at + 1
-endOf at F.Arrow = at + 2
-endOf at F.Stop = at + 1
-endOf at F.HalfArrow = at + 1
-endOf at F.HalfStop = at + 1
-endOf at F.Nothing = at + 1
-
 abbrev pub starting : Stage
 starting = record { mode = Between; at = 0; len = 0; depth = 0; formulas = 0; nodes = 0; variables = 0; rules = 0 }
 

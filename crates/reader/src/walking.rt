@@ -3,6 +3,7 @@ use crate::Turn;
 use crate::build;
 use drafts::Draft;
 use pieces::Found;
+use pieces::end_of;
 use pieces::piece_at;
 use stages::Judged;
 use stages::Mode;
@@ -17,7 +18,7 @@ ghost use Rattle.reading.specs.Part.{State};
 ghost use Rattle.pieces.specs.Found.{Shows};
 ghost use Rattle.stages.specs.Stage.{Held};
 ghost use Rattle.reader.specs.Kept.{Numbered};
-ghost use Rattle.reader.specs.Walking.{endOf, starting, blank, ends, Empty, Ends, Grows, Grown};
+ghost use Rattle.reader.specs.Walking.{starting, blank, ends, Empty, Ends, Grows, Grown};
 
 // A refusal, with its place; or all rules are read.
 pub enum Ended {
@@ -43,27 +44,6 @@ fn number_of(text: &[u8], vars: &[u16], n: usize, at: usize, found: Found) -> us
         Found::HalfArrow => 0,
         Found::HalfStop => 0,
         Found::Nothing => 0,
-    }
-}
-
-// Where a piece ends.
-pub fn end_of(found: Found, at: usize) -> usize
-    requires { ⌜ at < 65536 ⌝ }
-    ensures { λ r. ⌜ r ≡ endOf at found ⌝ }
-{
-    match found {
-        Found::Name(end) => end,
-        Found::Variable(end) => end,
-        Found::Space => at + 1,
-        Found::Comment(end) => end,
-        Found::Opening => at + 1,
-        Found::Closing => at + 1,
-        Found::Comma => at + 1,
-        Found::Arrow => at + 2,
-        Found::Stop => at + 1,
-        Found::HalfArrow => at + 1,
-        Found::HalfStop => at + 1,
-        Found::Nothing => at + 1,
     }
 }
 

@@ -2,12 +2,14 @@
 use areas::open_book;
 use areas::open_row;
 use areas::put_goal;
+use endings::answered;
+use endings::refused;
+use endings::shorter;
 use outcomes::Answer;
-use outcomes::admit::Admitted;
 use outcomes::admit::admit;
-use searching::Ended;
 use searching::Query;
 use searching::search;
+use states::Ended;
 ghost use mathlib.Core.Path.{_≡_};
 ghost use Prim.Native.Nat.{_+_, _≤_, min};
 ghost use lib.ListN.{length, take};
@@ -15,43 +17,10 @@ ghost use Rattle.search.specs.Next.{Book, Goal};
 ghost use Rattle.words.specs.Held.{RowIn, BookOn};
 ghost use Rattle.format.specs.Decode.{bookOf};
 ghost use Rattle.areas.specs.Rooms.{Rooms};
-ghost use Rattle.searching.specs.Searching.{Ends};
-ghost use Rattle.outcomes.specs.Outcome.{refused, closing, runAnswer, runArea, runAnswerArea};
+ghost use Rattle.states.specs.States.{Ends};
+ghost use Rattle.outcomes.specs.Outcome.{closing, runAnswer, runArea, runAnswerArea};
 ghost use Rattle.outcomes.specs.Refusals.{Good};
 ghost use Rattle.outcomes.specs.Running.{Leaves};
-ghost use Rattle.running.specs.Ending.{answered};
-
-// "Codes 1 to 19 refuse the input .. and give steps, span, bytes and every count 0."
-pub fn refused(a: Admitted) -> Answer
-    ensures { λ r. ⌜ r ≡ refused a ⌝ }
-{
-    Answer {
-        code: a.code,
-        place: a.place,
-        steps: 0,
-        span: 0,
-        bytes: 0,
-        answer: 0,
-        furthest: 0,
-        argument: 0,
-    }
-}
-
-fn answered(e: Ended, bytes: usize, answer: usize) -> Answer
-    requires { ⌜ (bytes ≤ 16387) × (answer ≤ 16387) × (e .clause ≤ 512) × (e .argument ≤ 4096) ⌝ }
-    ensures { λ r. ⌜ r ≡ answered e bytes answer ⌝ }
-{
-    Answer {
-        code: e.code,
-        place: 0,
-        steps: e.steps,
-        span: e.span,
-        bytes: bytes as u32,
-        answer: answer as u32,
-        furthest: e.clause as u32,
-        argument: e.argument as u32,
-    }
-}
 
 // The search from a goal, with storage for its steps.
 fn from_goal(book: &[u32], shelf: &[u16], goal: &mut [u32], query: Query) -> Ended
@@ -129,15 +98,6 @@ fn from_good(book: &[u8], query: &[u8], budget: u32, area: &mut [u8], answer: &m
         &mut shelf,
         &mut goal,
     )
-}
-
-pub fn shorter(a: usize, b: usize) -> usize
-    ensures { λ r. ⌜ r ≡ min a b ⌝ }
-{
-    if b < a {
-        return b;
-    }
-    a
 }
 
 // "Run a query by a book, with a budget and a goal area", and with an answer area.

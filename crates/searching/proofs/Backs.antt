@@ -8,9 +8,10 @@ use lib.Seq.{length-take-le, take-all, drop-at}
 use borrow.Rule.Slice.PartMut.{putMid, same-len-mid}
 use Rattle.search.specs.Next.{Book, Goal}
 use Rattle.words.specs.Held.{RowIn}
-use Rattle.searching.specs.declared.Turn.{Turn}
-use Rattle.searching.specs.declared.Turn.the-variants.{Open, Shut}
-use Rattle.searching.specs.Searching.{Ends, Opens, Turned, Of-size, back, Stands}
+use Rattle.states.specs.declared.Turn.{Turn}
+use Rattle.states.specs.declared.Turn.the-variants.{Open, Shut}
+use Rattle.states.specs.States.{Ends, Opens, Turned, Of-size}
+use Rattle.searching.specs.Searching.{back, Stands}
 
 -- a row has at most 8,192 words
 pub row-small : (row : List ℕ) (n m w : ℕ) {g a : Goal} → length row ≡ n + w → RowIn row n m g a → n + w ≤ 8192

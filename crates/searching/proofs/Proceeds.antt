@@ -13,13 +13,14 @@ use Rattle.resolve.specs.declared.Move.{Move}
 use Rattle.fronts.specs.Fronts.{Gone, Slid}
 use Rattle.fronts.specs.declared.Going.{Going}
 use Rattle.fronts.specs.declared.Going.the-variants.{Whole, Front}
-use Rattle.searching.specs.declared.Place.{Place}
-use Rattle.searching.specs.declared.Turn.{Turn}
+use Rattle.states.specs.declared.Place.{Place}
+use Rattle.states.specs.declared.Turn.{Turn}
 use Rattle.searching.specs.declared.following.Onto.{Onto}
-use Rattle.searching.specs.Searching.{Opens, closed, row-at, onto, task-of, Room, Moves, Moving, Moved, Ready, Following, Followed, Heard, Proceeding, Proceeded}
-use Rattle.searching.proofs.Verdicts.{next-is}
-use Rattle.searching.proofs.Fronts.{front-within}
-use Rattle.searching.proofs.Turns.{spent-ends}
+use Rattle.states.specs.States.{Opens, closed}
+use Rattle.searching.specs.Searching.{row-at, onto, task-of, Room, Moves, Moving, Moved, Ready, Following, Followed, Heard, Proceeding, Proceeded}
+use Rattle.states.proofs.Verdicts.{next-is}
+use Rattle.states.proofs.Fronts.{front-within}
+use Rattle.states.proofs.Turns.{spent-ends}
 
 -- an open state's sizes
 module _ {P : Book} {q : Goal} {budget : ℕ} {row saved : List ℕ} {p : Place} (o : Opens P q budget row saved p) where

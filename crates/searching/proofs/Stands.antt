@@ -9,9 +9,10 @@ use borrow.Rule.Slice.PartMut.{putMid}
 use Rattle.search.specs.Next.{Book, Goal}
 use Rattle.words.specs.Held.{RowIn}
 use Rattle.words.specs.HeldLaws.{row-goal, row-answer, row-of}
-use Rattle.searching.specs.declared.Ended.{Ended}
-use Rattle.searching.specs.Searching.{Ends, back}
-use Rattle.searching.proofs.Copies.{copied-length, copied-front}
+use Rattle.states.specs.declared.Ended.{Ended}
+use Rattle.states.specs.States.{Ends}
+use Rattle.searching.specs.Searching.{back}
+use Rattle.states.proofs.Copies.{copied-length, copied-front}
 use Rattle.searching.proofs.Backs.{row-small, back-long, back-lent, back-put}
 
 module _ (goal room : List ℕ) (n : ℕ) (g : n ≤ length goal) (r : n ≤ length room) (end from : ℕ) (is-end : end ≡ length goal) (is-from : from ≡ end - n) where

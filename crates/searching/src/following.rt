@@ -1,19 +1,20 @@
 // The state after an open one.
-use crate::Place;
-use crate::Turn;
-use crate::closing::close;
-use crate::closing::close_stuck;
-use crate::leftmost::copy_words;
-use crate::leftmost::keep;
-use crate::look;
 use detector::Detector;
 use fronts::Going;
 use resolve::Move;
+use states::Place;
+use states::Turn;
+use states::closing::close;
+use states::closing::close_stuck;
+use states::leftmost::copy_words;
+use states::leftmost::keep;
+use states::look;
 ghost use Prim.Native.Nat.{_≤_};
 ghost use mathlib.Core.Path.{_≡_};
 ghost use mathlib.Core.List.{_++_};
 ghost use lib.ListN.{length, take, drop};
-ghost use Rattle.searching.specs.Searching.{Somewhere, Looked, Moving, Moved, Following, Followed, Proceeding, Proceeded};
+ghost use Rattle.states.specs.States.{Somewhere, Looked};
+ghost use Rattle.searching.specs.Searching.{Moving, Moved, Following, Followed, Proceeding, Proceeded};
 
 // The next row: so many words of what a step wrote come before the last of the words that the goal's storage has; and how many words are its goal's
 // and its answer's, and how many formulas its goal has.

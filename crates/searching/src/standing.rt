@@ -1,5 +1,5 @@
 // A row at the front of its storage, and at the end.
-use crate::leftmost::copy_words;
+use states::leftmost::copy_words;
 ghost use Prim.Native.Nat.{_≤_};
 ghost use mathlib.Core.Path.{_≡_};
 ghost use lib.ListN.{length, take};

@@ -1,4 +1,3 @@
--- What the proofs of the single step and its two calls share.
+-- What the proofs of the single step and of the apply call share.
 pub mod Numbers
 pub mod Steps
-pub mod Picks

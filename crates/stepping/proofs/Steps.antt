@@ -82,13 +82,6 @@ module _ {book shelf goal : List ℕ} {formulas k : ℕ} (held : (P : Book) × B
 
 -- A goal that may be empty
 module _ {w : List ℕ} {n : ℕ} where
-  pub some-formula : (n ≡ 0 → ⊥) → (g : Goal) × GoalIn w n g → (f : Expr) × (g : Goal) × GoalIn w n (f ∷ g)
-  some-formula z p = go (p .0) (p .1)
-    where
-      go : (g : Goal) → GoalIn w n g → (f : Expr) × (g : Goal) × GoalIn w n (f ∷ g)
-      go [] h = absurd (z (h .count))
-      go (f ∷ g) h = (f, g, h)
-
   module _ {book shelf : List ℕ} (k : ℕ) where
     pub gives-empty : n ≡ 0 → (area : List ℕ) {r : Stepped} → r ≡ no-step 20 → (P : Book) (g : Goal) → BookOn book shelf P → GoalIn w n g → Gives (apply-by P g k) area r area
     gives-empty z area q P [] b h = rw q (gives-none area 20 refl)

@@ -19,7 +19,7 @@ ghost use Rattle.search.specs.Pick.{apply-by};
 ghost use Rattle.words.specs.Held.{GoalIn, BookOn};
 ghost use Rattle.format.specs.Decode.{bookOf, goalOf};
 ghost use Rattle.areas.specs.Rooms.{Rooms};
-ghost use Rattle.resolve.specs.Applying.{Store};
+ghost use Rattle.applying.specs.Applying.{Store};
 ghost use Rattle.outcomes.specs.Outcome.{stepRefused, applyAnswer, applyArea};
 ghost use Rattle.outcomes.specs.Refusals.{Good};
 ghost use Rattle.outcomes.specs.Stepping.{Gives, no-step, one-step};

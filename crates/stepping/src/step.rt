@@ -1,8 +1,8 @@
 // The single step: "Split the single step in two: one call picks the clause, a second applies a clause by its number. The run and the old step are
 // to be built on these" (document 02, C-16).
 use crate::apply::apply;
-use crate::pick::pick;
 use outcomes::Stepped;
+use picker::pick;
 ghost use mathlib.Core.Path.{_≡_};
 ghost use Rattle.outcomes.specs.Outcome.{stepAnswer, stepArea};
 ghost use Rattle.outcomes.specs.Stepping.{not-stepped};

@@ -1,5 +1,4 @@
 -- What the proofs of the functions share.
 pub mod Seeking  -- the search for a formula's place
-pub mod Records  -- one predicate, one arity
 pub mod Names  -- the names in the table, and their list
 pub mod Finishing  -- what is answered

@@ -13,7 +13,7 @@ use Rattle.grammar.specs.Front.{front, piece-before, front-of, pieces-of}
 use Rattle.pieces.specs.Found.{frontAt, Shows}
 use Rattle.pieces.specs.declared.Found.{Found}
 use Rattle.pieces.specs.declared.Found.the-variants as F
-use Rattle.reader.specs.Walking.{endOf}
+use Rattle.pieces.specs.Found.{endOf}
 use Rattle.reader.proofs.Walks.{piece-end}
 use Rattle.readouts.specs.Place.{seek, formula-place}
 use Rattle.texts.specs.Seek.{signOf, here, left-after, depth-after}

@@ -1,6 +1,5 @@
 // Rules typed on a laptop (document 02, C-13).
 use crate::places::formula_place;
-use crate::scanning::find_arities;
 use drafts::Draft;
 use listing::measure;
 use listing::put_bytes;
@@ -9,6 +8,7 @@ use reader::walking::Ended;
 use reader::walking::walk;
 use readouts::Arities;
 use readouts::ReadText;
+use scanning::find_arities;
 ghost use mathlib.Core.Path.{_≡_};
 ghost use Prim.Native.Nat.{_<_, _≤_};
 ghost use lib.ListN.{length};
@@ -18,8 +18,7 @@ ghost use Rattle.readouts.specs.OutcomeLaws.{Is};
 ghost use Rattle.reader.specs.declared.walking.Ended.the-variants.{Read};
 ghost use Rattle.texts.specs.Finished.{Came, Named, Finished, Kept-one, listBytes, listSize};
 
-mod places; // where a formula stands
-mod scanning; // one predicate, one arity
+pub mod places; // where a formula stands
 
 fn refusal(code: u8, place: usize) -> ReadText
     requires { ⌜ place ≤ 65536 ⌝ }

@@ -1,7 +1,7 @@
 // Where a formula stands in a text that is read (document 02, C-18: "at that formula's first byte").
 use pieces::Found;
+use pieces::end_of;
 use pieces::piece_at;
-use reader::walking::end_of;
 ghost use mathlib.Core.Path.{_≡_};
 ghost use Prim.Native.Nat.{_-_, _<_, _≤_};
 ghost use lib.ListN.{length};
@@ -67,7 +67,7 @@ fn left_after(sign: usize, left: usize, depth: usize) -> usize
 }
 
 // How many brackets are open behind the piece.
-fn depth_after(sign: usize, depth: usize) -> usize
+pub fn depth_after(sign: usize, depth: usize) -> usize
     requires { ⌜ depth < 65536 ⌝ }
     ensures { λ r. ⌜ r ≡ depth-after sign depth ⌝ }
 {

@@ -62,7 +62,7 @@ pub fn apply(book: &[u8], query: &[u8], clause: u32, area: &mut [u8]) -> bool
 pub fn pick(book: &[u8], query: &[u8]) -> bool
     ensures { λ r. ⌜ r ≡ true ⌝ }
 {
-    let a = stepping::pick::pick(book, query);
+    let a = picker::pick(book, query);
     number(a.code as u64);
     number(a.place as u64);
     number(a.steps as u64);

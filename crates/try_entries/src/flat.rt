@@ -7,7 +7,7 @@ use crate::line::number;
 use crate::line::sum;
 ghost use mathlib.Core.Path.{_≡_};
 ghost use mathlib.Core.Bool.{true};
-ghost use Rattle.profile.specs.Outcome.{flatStepArea, flatRunArea, flatRunAnswerArea};
+ghost use Rattle.flatly.specs.Outcome.{flatStepArea, flatRunArea, flatRunAnswerArea};
 
 pub fn check_book(book: &[u8]) -> bool
     ensures { λ r. ⌜ r ≡ true ⌝ }

@@ -1,8 +1,6 @@
 -- Laws that the proofs share.
-mod Resets
-mod Heaps
-mod Tests
 mod Carries
+mod Keeps
 mod Steps
 mod Quicks
 mod Moves

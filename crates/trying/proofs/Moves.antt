@@ -16,10 +16,10 @@ use Rattle.picking.specs.Picking.{Picked}
 use Rattle.picking.proofs.Appends.{moved-var, moved-plain}
 use Rattle.resolve.proofs.Advances.{moves}
 use Rattle.matching.specs.Binding.{Trailed}
-use Rattle.trying.specs.Trying.{trail, Undoable, Fronted, clause-words, laid, Held-trial, Sought}
+use Rattle.trials.specs.Trying.{trail, Undoable, Fronted, clause-words, laid, Held-trial, Sought}
 use Rattle.trying.specs.Stepping.{Shaped, Set-up, Quickly, Quickened}
-use Rattle.trying.specs.declared.Found.{Found}
-use Rattle.trying.specs.declared.Found.the-variants as Found
+use Rattle.trials.specs.declared.Found.{Found}
+use Rattle.trials.specs.declared.Found.the-variants as Found
 use Rattle.trying.specs.declared.stepping.Shape.{Shape}
 use Rattle.trying.specs.declared.stepping.Quick.{Quick}
 use Rattle.trying.specs.declared.stepping.Quick.the-variants.{Unsure, Sure}
@@ -29,7 +29,7 @@ use Rattle.trying.specs.declared.stepping.Quick.the-variants.{Unsure, Su
 moved-none : (u : ℕ) → moved 0 u ≡ u
 moved-none u = elim (ℕ-discrete (kindOf u) 1) [ yes k ↦ moved-var 0 u k ∙ (omega arith) | no n ↦ moved-plain 0 u n ]
 
-moved-nothing : (l : List ℕ) → map (moved 0) l ≡ l
+pub moved-nothing : (l : List ℕ) → map (moved 0) l ≡ l
 moved-nothing [] = refl
 moved-nothing (u ∷ l) = ap₂ _∷_ (moved-none u) (moved-nothing l)
 
@@ -57,12 +57,11 @@ module _ (words : List ℕ) (x : Shape) {f : Expr} {g a : Goal} (s : Shaped (tak
         let c = clause-words book shelf (length P) i in
         inv (take-take (x .row) (x .row + length c) z (omega arith)) ∙ ap (take (x .row)) (found .2 .front) ∙ take-at (take (x .row) words) (map (moved 8192) c) (x .row) (s .long)
 
-    pub set-up : Set-up book shelf z cells tables x i P f g a
+    pub set-up : Set-up book shelf z cells tables x i count P f g a
     set-up = record {
       on = o;
       inside = found .1;
       shaped = subst (λ w. Shaped w x f g a) (inv row-still) s;
-      count = count;
       trial = subst (λ w. Held-trial w (clause-words book shelf (length P) i) z cells tables (x .row) count) (inv row-still) (found .2);
     }
 

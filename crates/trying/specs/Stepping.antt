@@ -1,13 +1,15 @@
 -- The step by the first clause that fits, found on the heap.
 use Prim.Native.Nat.{ℕ, suc, _+_, _-_, _<_, _≤_}
 use mathlib.Core.Path.{_≡_}
-use mathlib.Core.List.{List, _∷_}
+use mathlib.Core.Bool.{true}
+use mathlib.Core.List.{List, _∷_, _++_}
 use lib.ListN.{length, getD, take}
 use Rattle.terms.specs.Node.{Expr}
+use Rattle.terms.specs.Number.{Numbered}
 use Rattle.search.specs.Next.{Book, Goal}
 use Rattle.words.specs.Held.{RowIn, BookOn, starts, heads, bodies}
 use Rattle.resolve.specs.Advancing.{Follows, Advanced}
-use Rattle.trying.specs.Trying.{clause-words, Held-trial}
+use Rattle.trials.specs.Trying.{clause-words, Held-trial}
 use Rattle.resolve.specs.declared.Move.the-variants.{Full, Over, To}
 use Rattle.trying.specs.declared.carrying.Parts.{Parts}
 use Rattle.trying.specs.declared.carrying.Next.{Next}
@@ -17,14 +19,17 @@ use Rattle.trying.specs.declared.stepping.Quick.{Quick}
 use Rattle.trying.specs.declared.stepping.Quick.the-variants.{Unsure, Sure}
 
 -- of n clauses, where the body of the one number i stands, put behind the row; and the rest of the goal, and the answer
-abbrev pub parts : List ℕ → Shape → ℕ → ℕ → Parts
-parts shelf x n i = record {
+abbrev pub parts : List ℕ → Shape → ℕ → ℕ → ℕ → Parts
+parts shelf x n i count = record {
   body = x .row + (getD (heads n shelf) i 0 - getD (starts n shelf) i 0);
   bodies = getD (bodies n shelf) i 0;
   rest = x .first;
   others = x .formulas - 1;
   answer = x .goal;
   answers = x .answers;
+  row = x .row;
+  bound = count;
+  numbered = x .numbered;
 }
 
 abbrev pub concluded : Next → ℕ → ℕ → Quick
@@ -39,13 +44,13 @@ pub record Shaped (w : List ℕ) (x : Shape) (f : Expr) (g a : Goal) : Type 0 wh
   pub long : length w ≡ x .row
   pub first : x .first ≡ length f
   pub answers : x .answers ≡ length a
+  pub numbered : x .numbered ≡ true → Numbered ((f ∷ g) ++ a)
 
 -- the trial of the clause number i stands
-pub record Set-up (book shelf words cells tables : List ℕ) (x : Shape) (i : ℕ) (P : Book) (f : Expr) (g a : Goal) : Type 0 where
+pub record Set-up (book shelf words cells tables : List ℕ) (x : Shape) (i count : ℕ) (P : Book) (f : Expr) (g a : Goal) : Type 0 where
   pub on : BookOn book shelf P
   pub inside : i < length P
   pub shaped : Shaped (take (x .row) words) x f g a
-  pub count : ℕ
   pub trial : Held-trial (take (x .row) words) (clause-words book shelf (length P) i) words cells tables (x .row) count
 
 -- what follows by the clause number i, if anything is known

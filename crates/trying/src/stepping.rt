@@ -1,40 +1,42 @@
 // The step by the first clause that fits, found by trials on the heap; where a trial gives up, or no clause fits, by the step that takes its time.
-use crate::Found;
 use crate::carrying::Next;
 use crate::carrying::Parts;
 use crate::carrying::write_next;
-use crate::first_fit;
-use crate::resetting::release;
 use picking::append;
-use picking::extent;
 use resolve::Front;
 use resolve::Move;
+use trials::Found;
+use trials::first_fit;
+use trials::resetting::release;
 use words::shelf::BODY;
 use words::shelf::HEAD;
 use words::shelf::START;
 use words::shelf::entry;
 ghost use mathlib.Core.Path.{_≡_};
-ghost use mathlib.Core.List.{List, _∷_};
+ghost use mathlib.Core.Bool.{true};
+ghost use mathlib.Core.List.{List, _∷_, _++_};
 ghost use Prim.Native.Nat.{ℕ, _+_, _-_, _<_, _≤_};
 ghost use lib.ListN.{length, getD, take};
 ghost use Rattle.terms.specs.Node.{Expr};
+ghost use Rattle.terms.specs.Number.{Numbered};
 ghost use Rattle.search.specs.Next.{Book, Goal};
 ghost use Rattle.words.specs.Held.{RowIn, BookOn, starts, heads, bodies};
 ghost use Rattle.words.specs.Columns.{CELLS, WORDS};
 ghost use Rattle.numbering.specs.Naming.{spare};
-ghost use Rattle.resolve.specs.Applying.{Store};
+ghost use Rattle.applying.specs.Applying.{Store};
 ghost use Rattle.resolve.specs.Advancing.{Advanced};
 ghost use Rattle.matching.specs.TrialLaws.{Free};
 ghost use Rattle.trying.specs.Stepping.{parts, concluded, Shaped, Set-up, Quickly, Quickened};
 
 // Of a row of words, a goal with its answer behind it: how many words it has, how many of them are the goal's and how many the goal's first
-// formula, and how many formulas goal and answer have.
+// formula, how many formulas goal and answer have, and whether the two are known to be numbered by first appearance.
 pub struct Shape {
     pub row: usize,
     pub goal: usize,
     pub first: usize,
     pub formulas: usize,
     pub answers: usize,
+    pub numbered: bool,
 }
 
 // What a trial on the heap comes to; or nothing is known.
@@ -44,9 +46,9 @@ pub enum Quick {
 }
 
 // Where the body of the clause number i stands, put behind the row; and the rest.
-fn parts_of(shelf: &[u16], x: Shape, i: usize) -> Parts
+fn parts_of(shelf: &[u16], x: Shape, i: usize, bound: usize) -> Parts
     requires { ⌜ ((book : List ℕ) × (P : Book) × BookOn book (now shelf) P × (i < length P)) × (x .row ≤ 8192) × (0 < x .formulas) ⌝ }
-    ensures { λ r. ⌜ ((n : ℕ) → i < n → r ≡ parts (now (shelf .entry)) x n i) ⌝ }
+    ensures { λ r. ⌜ ((n : ℕ) → i < n → r ≡ parts (now (shelf .entry)) x n i bound) ⌝ }
 {
     let s = entry(shelf, START, i);
     let e = entry(shelf, HEAD, i);
@@ -57,6 +59,9 @@ fn parts_of(shelf: &[u16], x: Shape, i: usize) -> Parts
         others: x.formulas - 1,
         answer: x.goal,
         answers: x.answers,
+        row: x.row,
+        bound,
+        numbered: x.numbered,
     }
 }
 
@@ -82,22 +87,23 @@ fn concluded(next: Next, i: usize, formulas: usize) -> Quick
     }
 }
 
-// What the clause number i, whose trial the heap holds, says to the row.
+// What the clause number i, whose trial the heap holds, says to the row; the trial has bound so many of its variables.
 fn carry(
     shelf: &[u16],
     words: &[u32],
     x: Shape,
     i: usize,
+    count: usize,
     cells: &[u16],
     rows: &mut [u16],
     out: &mut [u32],
 ) -> Quick
     requires { ⌜ (length (now words) ≡ WORDS) × (length (now cells) ≡ 8256) × (length (now rows) ≡ CELLS) × (length (now out) ≡ 8192) ⌝ }
-    requires { ⌜ ((book : List ℕ) × (P : Book) × (f : Expr) × (g : Goal) × (a : Goal) × Set-up book (now shelf) (now words) (now cells) (now rows) x i P f g a) ⌝ }
-    ensures quickly { λ r. ⌜ ((book : List ℕ) (P : Book) (f : Expr) (g a : Goal) → Set-up book (now (shelf .entry)) (now (words .entry)) (now (cells .entry)) (now (rows .entry)) x i P f g a → Quickly P i f g a (now (out .exit)) r) ⌝ }
+    requires { ⌜ ((book : List ℕ) × (P : Book) × (f : Expr) × (g : Goal) × (a : Goal) × Set-up book (now shelf) (now words) (now cells) (now rows) x i count P f g a) ⌝ }
+    ensures quickly { λ r. ⌜ ((book : List ℕ) (P : Book) (f : Expr) (g a : Goal) → Set-up book (now (shelf .entry)) (now (words .entry)) (now (cells .entry)) (now (rows .entry)) x i count P f g a → Quickly P i f g a (now (out .exit)) r) ⌝ }
     ensures spare { λ _. ⌜ spare (now (rows .exit)) ≡ spare (now (rows .entry)) ⌝ }
 {
-    let p = parts_of(shelf, x, i);
+    let p = parts_of(shelf, x, i, count);
     let formulas = p.bodies + p.others;
     if 512 < formulas {
         return Quick::Sure(Move::Full);
@@ -124,7 +130,7 @@ fn on_heap(
 {
     match first_fit(book, shelf, words, x.row, x.first, cells, rows) {
         Found::Clause(i, count) => {
-            let r = carry(shelf, words, x, i, cells, rows, out);
+            let r = carry(shelf, words, x, i, count, cells, rows, out);
             release(cells, rows, count);
             r
         }
@@ -132,25 +138,27 @@ fn on_heap(
     }
 }
 
-// The shape of a row: how long its goal's first formula is.
-fn shape_of(row: &[u32], goal: usize, formulas: usize, answers: usize) -> Shape
-    requires { ⌜ ((f : Expr) × (g : Goal) × (a : Goal) × RowIn (now row) goal formulas (f ∷ g) a) ⌝ }
-    ensures { λ r. ⌜ ((f : Expr) (g a : Goal) → RowIn (now (row .entry)) goal formulas (f ∷ g) a → answers ≡ length a → Shaped (now (row .entry)) r f g a) × (r .row ≡ length (now (row .entry))) ⌝ }
+// Of a row: how many words are its goal's and how many its goal's first formula's, how many formulas goal and answer have, and whether the two are
+// known to be numbered by first appearance.
+pub struct Sides {
+    pub words: usize,
+    pub first: usize,
+    pub formulas: usize,
+    pub answers: usize,
+    pub numbered: bool,
+}
+
+fn shape_of(row: &[u32], sides: Sides) -> Shape
+    ensures { λ r. ⌜ ((f : Expr) (g a : Goal) → RowIn (now (row .entry)) (sides .words) (sides .formulas) (f ∷ g) a → sides .answers ≡ length a → sides .first ≡ length f → (sides .numbered ≡ true → Numbered ((f ∷ g) ++ a)) → Shaped (now (row .entry)) r f g a) × (r .row ≡ length (now (row .entry))) ⌝ }
 {
     Shape {
         row: row.len(),
-        goal,
-        first: extent(&row[0..goal]),
-        formulas,
-        answers,
+        goal: sides.words,
+        first: sides.first,
+        formulas: sides.formulas,
+        answers: sides.answers,
+        numbered: sides.numbered,
     }
-}
-
-// Of a row: how many words are its goal's, and how many formulas goal and answer have.
-pub struct Sides {
-    pub words: usize,
-    pub formulas: usize,
-    pub answers: usize,
 }
 
 // The next goal and answer by the first clause whose head unifies with the goal's first formula; before and after, no variable is bound.
@@ -165,11 +173,11 @@ pub fn advance(
     cells: &mut [u16],
 ) -> Move
     requires { ⌜ Store (now words) (now rows) (now out) × (length (now cells) ≡ 8256) × Free (now cells) ⌝ }
-    requires { ⌜ ((P : Book) × BookOn (now book) (now shelf) P) × ((f : Expr) × (g : Goal) × (a : Goal) × RowIn (now row) (sides .words) (sides .formulas) (f ∷ g) a × (sides .answers ≡ length a)) ⌝ }
-    ensures advanced { λ r. ⌜ ((P : Book) (f : Expr) (g a : Goal) → BookOn (now (book .entry)) (now (shelf .entry)) P → RowIn (now (row .entry)) (sides .words) (sides .formulas) (f ∷ g) a → sides .answers ≡ length a → Advanced P (f ∷ g) a (now (out .exit)) r) ⌝ }
+    requires { ⌜ ((P : Book) × BookOn (now book) (now shelf) P) × ((f : Expr) × (g : Goal) × (a : Goal) × RowIn (now row) (sides .words) (sides .formulas) (f ∷ g) a × (sides .answers ≡ length a) × (sides .first ≡ length f) × (sides .numbered ≡ true → Numbered ((f ∷ g) ++ a))) ⌝ }
+    ensures advanced { λ r. ⌜ ((P : Book) (f : Expr) (g a : Goal) → BookOn (now (book .entry)) (now (shelf .entry)) P → RowIn (now (row .entry)) (sides .words) (sides .formulas) (f ∷ g) a → sides .answers ≡ length a → sides .first ≡ length f → (sides .numbered ≡ true → Numbered ((f ∷ g) ++ a)) → Advanced P (f ∷ g) a (now (out .exit)) r) ⌝ }
     ensures free { λ _. ⌜ Free (now (cells .exit)) ⌝ }
 {
-    let x = shape_of(row, sides.words, sides.formulas, sides.answers);
+    let x = shape_of(row, sides);
     append(words, 0, row, 0);
     match on_heap(book, shelf, x, words, rows, out, cells) {
         Quick::Sure(next) => next,

@@ -11,11 +11,12 @@ use Rattle.terms.specs.Cases.{cases}
 use Rattle.pieces.specs.declared.Found.{Found}
 use Rattle.pieces.specs.declared.Found.the-variants as F
 use Rattle.pieces.specs.Found.{Inside}
-use Rattle.turns.specs.declared.Mode.{Mode}
-use Rattle.turns.specs.declared.Mode.the-variants.{Begin, Expects, Named, Complete, Over, Wrong}
-use Rattle.turns.specs.declared.Stage.{Stage}
-use Rattle.turns.specs.Machine.{settled, behind, when, unless, on-opening}
-use Rattle.turns.specs.Stage.{isWrong, isHalf, endOf, fullAt, codeAt, nameSize, sizeAt, stageAfter, countsAfter, next, stack, Low, Roomy, Held}
+use Rattle.halfway.specs.declared.Mode.{Mode}
+use Rattle.halfway.specs.declared.Mode.the-variants.{Begin, Expects, Named, Complete, Over, Wrong}
+use Rattle.halfway.specs.declared.Stage.{Stage}
+use Rattle.halfway.specs.Machine.{settled, behind, when, unless, on-opening}
+use Rattle.pieces.specs.Found.{endOf}
+use Rattle.halfway.specs.Stage.{isWrong, isHalf, fullAt, codeAt, nameSize, sizeAt, stageAfter, countsAfter, next, stack, Low, Roomy, Held}
 use Rattle.turns.proofs.Turning.{roomy-depth, stack-top, low-more, ready}
 
 roomy-le : (m : Mode) (d n : ℕ) → (m ≡ Named → ⊥) → d ≤ n → Roomy m d n

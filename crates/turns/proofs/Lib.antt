@@ -1,5 +1,4 @@
 -- What the proofs of the functions share.
-pub mod Changes  -- what each piece changes
 pub mod Turning  -- what a piece leads to
 pub mod Passing  -- what the few modes make of a piece
 pub mod Holding  -- what is held of the next stage

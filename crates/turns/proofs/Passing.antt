@@ -17,13 +17,14 @@ use Rattle.pieces.specs.declared.Found.{Found}
 use Rattle.pieces.specs.declared.Found.the-variants as F
 use Rattle.pieces.specs.Found.{part, frontAt, Inside}
 use Rattle.asking.specs.Asking.{Tally, tally, counted, closed, with-comma, full, code, limit}
-use Rattle.turns.specs.declared.Mode.{Mode}
-use Rattle.turns.specs.declared.Mode.the-variants.{Begin, Expects, Named, Complete, Over, Wrong}
-use Rattle.turns.specs.declared.Stage.{Stage}
-use Rattle.turns.specs.declared.Judged.{Judged}
-use Rattle.turns.specs.declared.Judged.the-variants.{Going, Bad}
-use Rattle.turns.specs.Machine.{settled, after, deep, Answer, fine, bad, sized, judged, half, from}
-use Rattle.turns.specs.Stage.{isWrong, endOf, codeAt, nameSize, sizeAt, placeOf, stageAfter, countsAfter, next, turned, stack, tallyOf, Held}
+use Rattle.halfway.specs.declared.Mode.{Mode}
+use Rattle.halfway.specs.declared.Mode.the-variants.{Begin, Expects, Named, Complete, Over, Wrong}
+use Rattle.halfway.specs.declared.Stage.{Stage}
+use Rattle.halfway.specs.declared.Judged.{Judged}
+use Rattle.halfway.specs.declared.Judged.the-variants.{Going, Bad}
+use Rattle.halfway.specs.Machine.{settled, after, deep, Answer, fine, bad, sized, judged, half, from}
+use Rattle.pieces.specs.Found.{endOf}
+use Rattle.halfway.specs.Stage.{isWrong, codeAt, nameSize, sizeAt, placeOf, stageAfter, countsAfter, next, turned, stack, tallyOf, Held}
 use Rattle.turns.proofs.Turning.{deep-stack, code-stack, stack-top, ready}
 
 -- what is done with a piece that is judged

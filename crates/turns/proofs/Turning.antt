@@ -13,11 +13,11 @@ use Rattle.terms.specs.Cases.{cases}
 use Rattle.pieces.specs.declared.Found.{Found}
 use Rattle.pieces.specs.declared.Found.the-variants as F
 use Rattle.asking.specs.Asking.{full, code}
-use Rattle.turns.specs.declared.Mode.{Mode}
-use Rattle.turns.specs.declared.Mode.the-variants.{Begin, Expects, Named, Complete, Over, Wrong}
-use Rattle.turns.specs.declared.Stage.{Stage}
-use Rattle.turns.specs.Machine.{deep, when, behind, on-opening}
-use Rattle.turns.specs.Stage.{isWrong, fullAt, codeAt, next, afterFound, stack, tallyOf, Low, Ready, Advances, Roomy, Held}
+use Rattle.halfway.specs.declared.Mode.{Mode}
+use Rattle.halfway.specs.declared.Mode.the-variants.{Begin, Expects, Named, Complete, Over, Wrong}
+use Rattle.halfway.specs.declared.Stage.{Stage}
+use Rattle.halfway.specs.Machine.{deep, when, behind, on-opening}
+use Rattle.halfway.specs.Stage.{isWrong, fullAt, codeAt, next, afterFound, stack, tallyOf, Low, Ready, Advances, Roomy, Held}
 
 -- The counts of the open brackets
 

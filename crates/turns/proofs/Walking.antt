@@ -14,16 +14,17 @@ use Rattle.pieces.specs.declared.Found.{Found}
 use Rattle.pieces.specs.declared.Found.the-variants as F
 use Rattle.pieces.specs.Found.{frontAt, Inside, Shows}
 use Rattle.asking.specs.Asking.{begin, none-yet, Tally, Outcome, read, refused, walk, asking}
-use Rattle.turns.specs.declared.Mode.{Mode}
-use Rattle.turns.specs.declared.Mode.the-variants.{Begin}
-use Rattle.turns.specs.declared.Stage.{Stage}
-use Rattle.turns.specs.declared.Judged.{Judged}
-use Rattle.turns.specs.declared.Judged.the-variants.{Going, Bad}
-use Rattle.turns.specs.declared.Ended.{Ended}
-use Rattle.turns.specs.declared.Ended.the-variants.{Fine, Refused}
-use Rattle.turns.specs.Machine.{deep, may-end, Answer, fine, bad, told, from, ended, pass}
+use Rattle.halfway.specs.declared.Mode.{Mode}
+use Rattle.halfway.specs.declared.Mode.the-variants.{Begin}
+use Rattle.halfway.specs.declared.Stage.{Stage}
+use Rattle.halfway.specs.declared.Judged.{Judged}
+use Rattle.halfway.specs.declared.Judged.the-variants.{Going, Bad}
+use Rattle.halfway.specs.declared.Ended.{Ended}
+use Rattle.halfway.specs.declared.Ended.the-variants.{Fine, Refused}
+use Rattle.halfway.specs.Machine.{deep, may-end, Answer, fine, bad, told, from, ended, pass}
 use Rattle.turns.specs.MachineLaws.{begins, passes}
-use Rattle.turns.specs.Stage.{isWrong, isHalf, endOf, fullAt, codeAt, nameSize, sizeAt, placeOf, stageAfter, countsAfter, next, turned, Left, endsAt, startStage, tallyOf, Held}
+use Rattle.pieces.specs.Found.{endOf}
+use Rattle.halfway.specs.Stage.{isWrong, isHalf, fullAt, codeAt, nameSize, sizeAt, placeOf, stageAfter, countsAfter, next, turned, Left, endsAt, startStage, tallyOf, Held}
 use Rattle.turns.specs.Passing.{answerOf, LowEnd, Ends, checked, textCheck}
 use Rattle.turns.proofs.Turning.{deep-stack, ready}
 use Rattle.turns.proofs.Holding.{held-next}

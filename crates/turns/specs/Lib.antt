@@ -1,6 +1,4 @@
 -- Queries as text on bytes (document 02, C-13): few modes and counts in the place of the reader's states.
-pub mod Machine
 pub mod MachineLaws
-pub mod Stage
 pub mod Passing
 pub mod Once

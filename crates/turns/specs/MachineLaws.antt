@@ -13,9 +13,9 @@ use Rattle.reading.specs.Part as Part
 use Rattle.reading.specs.Reader.{long, judge-taken}
 use Rattle.asking.specs.Asking.{begin, step, goal, unfinished, meaning, Tally, tally, counted, limit, Outcome, read, refused, breaks, go-on, from-front, walk}
 use Rattle.asking.specs.Asking as Asking
-use Rattle.turns.specs.declared.Mode.{Mode}
-use Rattle.turns.specs.declared.Mode.the-variants.{Begin, Expects, Named, Complete, Over, Wrong}
-use Rattle.turns.specs.Machine.{settled, after, deep, may-end, Answer, fine, bad, told, sized, judged, half, from, ended, pass}
+use Rattle.halfway.specs.declared.Mode.{Mode}
+use Rattle.halfway.specs.declared.Mode.the-variants.{Begin, Expects, Named, Complete, Over, Wrong}
+use Rattle.halfway.specs.Machine.{settled, after, deep, may-end, Answer, fine, bad, told, sized, judged, half, from, ended, pass}
 
 -- as many brackets are open, and the root has a formula
 abbrev Deep : Part → List ℕ → Type 0

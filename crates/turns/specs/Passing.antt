@@ -4,10 +4,10 @@ use mathlib.Core.Path.{_≡_}
 use mathlib.Core.List.{List}
 use lib.ListN.{length}
 use Rattle.asking.specs.Asking.{begin, none-yet, Outcome, read, refused, walk}
-use Rattle.turns.specs.declared.Ended.{Ended}
-use Rattle.turns.specs.declared.Ended.the-variants.{Fine, Refused}
+use Rattle.halfway.specs.declared.Ended.{Ended}
+use Rattle.halfway.specs.declared.Ended.the-variants.{Fine, Refused}
 use Rattle.turns.specs.declared.TextCheck.{TextCheck}
-use Rattle.turns.specs.Machine.{Answer, fine, bad, told}
+use Rattle.halfway.specs.Machine.{Answer, fine, bad, told}
 
 abbrev pub answerOf : Ended → Answer
 answerOf Fine = fine

@@ -1,53 +1,24 @@
-// How far a query's text is read, in numbers: each piece taken, or refused; whether a text is a query's (document 02, C-13).
-use crate::advancing::advance;
-use crate::modes::after;
-use crate::modes::may_end;
-use crate::modes::wrong;
-use crate::sizes::place;
-use crate::sizes::size;
+// Whether a text is a query's (document 02, C-13): each piece taken, or refused.
+use halfway::Ended;
+use halfway::Judged;
+use halfway::Mode;
+use halfway::Stage;
+use halfway::advancing::advance;
+use halfway::modes::after;
+use halfway::modes::may_end;
+use halfway::modes::wrong;
+use halfway::sizes::place;
+use halfway::sizes::size;
 use pieces::Found;
+use pieces::end_of;
 use pieces::piece_at;
 ghost use mathlib.Core.Path.{_≡_};
 ghost use Prim.Native.Nat.{_≤_, _<_};
 ghost use lib.ListN.{length};
 ghost use lib.Dec.{ltb};
 ghost use Rattle.asking.specs.Asking.{asking};
-ghost use Rattle.turns.specs.Stage.{Held, isHalf, endOf, turned, Left, endsAt, startStage};
+ghost use Rattle.halfway.specs.Stage.{Held, isHalf, turned, Left, endsAt, startStage};
 ghost use Rattle.turns.specs.Passing.{Ends, textCheck};
-
-pub mod advancing; // what a piece changes
-pub mod modes; // what may stand next
-pub mod sizes; // what would be one too many
-
-// Before the first formula; before a formula or an argument that must come; behind a name, whose bracket may follow; behind a formula or an argument; behind the full stop; nowhere.
-pub enum Mode {
-    Begin,
-    Expects,
-    Named,
-    Complete,
-    Over,
-    Wrong,
-}
-
-// What may stand next; the commas outside all brackets; how many brackets are open; names and variables.
-pub struct Stage {
-    pub mode: Mode,
-    pub outside: usize,
-    pub depth: usize,
-    pub words: usize,
-}
-
-// What a piece leads to, or a code and a place.
-pub enum Judged {
-    Going(Stage),
-    Bad(usize, usize),
-}
-
-// A query's text, or a code and a place.
-pub enum Ended {
-    Fine,
-    Refused(usize, usize),
-}
 
 pub struct TextCheck {
     pub code: u8,
@@ -109,27 +80,6 @@ fn start() -> Stage
         outside: 0,
         depth: 0,
         words: 0,
-    }
-}
-
-// Where a piece ends.
-fn end_of(found: Found, at: usize) -> usize
-    requires { ⌜ at < 65536 ⌝ }
-    ensures { λ r. ⌜ r ≡ endOf at found ⌝ }
-{
-    match found {
-        Found::Name(end) => end,
-        Found::Variable(end) => end,
-        Found::Space => at + 1,
-        Found::Comment(end) => end,
-        Found::Opening => at + 1,
-        Found::Closing => at + 1,
-        Found::Comma => at + 1,
-        Found::Arrow => at + 2,
-        Found::Stop => at + 1,
-        Found::HalfArrow => at + 1,
-        Found::HalfStop => at + 1,
-        Found::Nothing => at + 1,
     }
 }
 

@@ -1,8 +1,8 @@
 -- `office::pitxargole_print_answer` meets its contract. Assumes nothing.
 use borrow.Author.Needs.{needs}
 use mathlib.Core.Path.{ap, _∙_}
-use Rattle.office.specs.Numbers.{textNumber}
-use Rattle.office.specs.Figures.{answer-narrow}
+use Rattle.textnumbers.specs.Numbers.{textNumber}
+use Rattle.textnumbers.specs.Figures.{answer-narrow}
 use Rattle.office.proofs.pitxargole_print_answer.Statement.{statement}
 use Rattle.office.proofs.pitxargole_print_answer.Tie as tie
 

@@ -1,8 +1,8 @@
 -- `office::pitxargole_print_book` meets its contract. Assumes nothing.
 use borrow.Author.Needs.{needs}
 use mathlib.Core.Path.{ap, _∙_}
-use Rattle.office.specs.Numbers.{textNumber}
-use Rattle.office.specs.Figures.{book-narrow}
+use Rattle.textnumbers.specs.Numbers.{textNumber}
+use Rattle.textnumbers.specs.Figures.{book-narrow}
 use Rattle.office.proofs.pitxargole_print_book.Statement.{statement}
 use Rattle.office.proofs.pitxargole_print_book.Tie as tie
 

@@ -1,8 +1,8 @@
 -- `office::pitxargole_read_text` meets its contract. Assumes nothing.
 use borrow.Author.Needs.{needs}
 use mathlib.Core.Path.{ap, _∙_}
-use Rattle.office.specs.Numbers.{readNumber}
-use Rattle.office.specs.ReadFigures.{read-narrow}
+use Rattle.textnumbers.specs.Numbers.{readNumber}
+use Rattle.textnumbers.specs.ReadFigures.{read-narrow}
 use Rattle.office.proofs.pitxargole_read_text.Statement.{statement}
 use Rattle.office.proofs.pitxargole_read_text.Tie as tie
 

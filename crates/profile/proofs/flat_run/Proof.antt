@@ -5,7 +5,7 @@ use mathlib.Core.Path.{sym as inv, ap, _∙_}
 use Rattle.format.specs.declared.Check.{Check}
 use Rattle.outcomes.specs.declared.admit.Admitted.{Admitted}
 use Rattle.outcomes.specs.Outcome.{refused}
-use Rattle.profile.specs.Ways.{by-found, code-found, query-flat-place, run-short, run-taken, run-area-taken, run-answer-area-taken, run-refused, run-area-kept, run-answer-area-kept}
+use Rattle.flatly.specs.Ways.{by-found, code-found, query-flat-place, run-short, run-taken, run-area-taken, run-answer-area-taken, run-refused, run-area-kept, run-answer-area-kept}
 use Rattle.profile.proofs.flat_run.Statement.{statement}
 use Rattle.profile.proofs.flat_run.Tie as tie
 

@@ -5,7 +5,7 @@ use mathlib.Core.Path.{sym as inv, ap, _∙_}
 use Rattle.format.specs.declared.Check.{Check}
 use Rattle.outcomes.specs.declared.admit.Admitted.{Admitted}
 use Rattle.outcomes.specs.Outcome.{stepRefused}
-use Rattle.profile.specs.Ways.{by-found, code-found, query-flat-place, step-short, step-taken, step-area-taken, step-refused, step-area-kept}
+use Rattle.flatly.specs.Ways.{by-found, code-found, query-flat-place, step-short, step-taken, step-area-taken, step-refused, step-area-kept}
 use Rattle.profile.proofs.flat_step.Statement.{statement}
 use Rattle.profile.proofs.flat_step.Tie as tie
 

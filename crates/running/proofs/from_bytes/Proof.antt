@@ -2,7 +2,7 @@ use native.Mathlib.Omega.{arith}
 use mathlib.Core.Path.{sym as inv}
 use lib.Seq.{length-take-le}
 use Rattle.format.specs.Decode.{bookOf, goalOf}
-use Rattle.running.specs.Ending.{said-holds, last-short, search-leaves}
+use Rattle.endings.specs.Ending.{said-holds, last-short, search-leaves}
 use Rattle.outcomes.proofs.Smalls.{figures-small, small-is}
 use borrow.Author.Needs.{needs}
 use Rattle.running.proofs.from_bytes.Statement.{statement}

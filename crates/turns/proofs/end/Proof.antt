@@ -1,11 +1,11 @@
-use Rattle.turns.proofs.Changes.{end-fine, end-early}
+use Rattle.halfway.proofs.Changes.{end-fine, end-early}
 use borrow.Author.Needs.{needs}
 use Rattle.turns.proofs.end.Statement.{statement}
 use Rattle.turns.proofs.end.Tie as tie
 use Rattle.turns.proofs.end.Reads as reads
 use Rattle.turns.proofs.end.Lts as lts
 use Rattle.turns.proofs.deep.Reads as deep-reads
-use Rattle.turns.proofs.modes.may_end.Reads as may-end-reads
+use Rattle.halfway.proofs.modes.may_end.Reads as may-end-reads
 
 -- src/lib.rt:232:19
 deep-requires : tie.Need-deep-requires

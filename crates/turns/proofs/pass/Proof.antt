@@ -10,7 +10,7 @@ use Rattle.turns.proofs.pass.Reads as reads
 use Rattle.turns.proofs.pass.Lts as lts
 use Rattle.pieces.proofs.piece_at.Reads as piece-at-reads
 use Rattle.turns.proofs.end.Reads as end-reads
-use Rattle.turns.proofs.end_of.Reads as end-of-reads
+use Rattle.pieces.proofs.end_of.Reads as end-of-reads
 use Rattle.turns.proofs.start.Reads as start-reads
 use Rattle.turns.proofs.turn.Reads as turn-reads
 

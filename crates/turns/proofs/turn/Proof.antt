@@ -1,18 +1,18 @@
 use native.Mathlib.Omega.{arith}
 use Rattle.turns.proofs.Turning.{ready, advances}
-use Rattle.turns.proofs.Changes.{mode-is, turn-wrong, right, turn-half, turn-size, turn-goes}
+use Rattle.halfway.proofs.Changes.{mode-is, turn-wrong, right, turn-half, turn-size, turn-goes}
 use borrow.Author.Needs.{needs}
 use Rattle.turns.proofs.turn.Statement.{statement}
 use Rattle.turns.proofs.turn.Tie as tie
 use Rattle.turns.proofs.turn.Reads as reads
 use Rattle.turns.proofs.turn.Lts as lts
-use Rattle.turns.proofs.advancing.advance.Reads as advance-reads
+use Rattle.halfway.proofs.advancing.advance.Reads as advance-reads
 use Rattle.turns.proofs.deep.Reads as deep-reads
 use Rattle.turns.proofs.is_half.Reads as is-half-reads
-use Rattle.turns.proofs.modes.after.Reads as after-reads
-use Rattle.turns.proofs.modes.wrong.Reads as wrong-reads
-use Rattle.turns.proofs.sizes.place.Reads as place-reads
-use Rattle.turns.proofs.sizes.size.Reads as size-reads
+use Rattle.halfway.proofs.modes.after.Reads as after-reads
+use Rattle.halfway.proofs.modes.wrong.Reads as wrong-reads
+use Rattle.halfway.proofs.sizes.place.Reads as place-reads
+use Rattle.halfway.proofs.sizes.size.Reads as size-reads
 
 -- src/lib.rt:181:25
 deep-requires : tie.Need-deep-requires

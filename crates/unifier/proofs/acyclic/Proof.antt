@@ -4,9 +4,9 @@ use mathlib.Core.List.{List, [], _∷_}
 use Prim.Native.Nat.{ℕ}
 use lib.ListN.{length, getD}
 use Rattle.words.specs.Columns.{column, column-length, Only, after, wider, ROWS, END, UP, PICK, LEFT, RIGHT, RANK, FIRST}
-use Rattle.unifier.specs.Steps.{Flat}
-use Rattle.unifier.specs.Ranking.{Settled}
-use Rattle.unifier.specs.Tables.{ends, ups, picks, lefts, rights, ranks, firsts, ClosedIn, TrialIn, CheckedIn, Search}
+use Rattle.positions.specs.Steps.{Flat}
+use Rattle.positions.specs.Ranking.{Settled}
+use Rattle.positions.specs.Tables.{ends, ups, picks, lefts, rights, ranks, firsts, ClosedIn, TrialIn, CheckedIn, Search}
 use Rattle.unifier.proofs.Trials.{searching, closed-flat, trial-flat, checked}
 use borrow.Author.Needs.{needs}
 use Rattle.unifier.proofs.acyclic.Statement.{statement}

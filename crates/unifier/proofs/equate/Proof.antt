@@ -4,9 +4,9 @@ use mathlib.Core.List.{List, [], _∷_}
 use Prim.Native.Nat.{ℕ}
 use lib.ListN.{length}
 use Rattle.words.specs.Columns.{Only, ROWS, END, UP, PICK, LEFT, RIGHT, FIRST}
-use Rattle.unifier.specs.Words.{child}
-use Rattle.unifier.specs.Closing.{Closing}
-use Rattle.unifier.specs.Tables.{ends, ups, picks, firsts, ClosedIn, TrialIn, EquatedIn}
+use Rattle.positions.specs.Words.{child}
+use Rattle.positions.specs.Closing.{Closing}
+use Rattle.positions.specs.Tables.{ends, ups, picks, firsts, ClosedIn, TrialIn, EquatedIn}
 use Rattle.unifier.proofs.Trials.{equated}
 use borrow.Author.Needs.{needs}
 use Rattle.unifier.proofs.equate.Statement.{statement}

@@ -9,7 +9,7 @@ pub hang-spec : {M : Type 1} → statement M
 hang-spec =
     tie.close
     (tie.spec
-    (λ c κs. let k = c .before .before .before .before .before .before .pre in ((k .0 .0, k .1 .5, omega (arith, k .0 .2, k .1 .3)), (k .1 .0, k .1 .1)))
+    (λ c κs. let k = c .before .before .before .before .before .before .pre in ((k .0 .0, k .1 .5, omega (arith, k .0 .2, k .1 .3), k .0 .3), (k .1 .0, k .1 .1)))
     (λ c. search needs)
     (λ c κs. let k = c .before .before .before .before .before .before .before .before .before .before .before .before .before .before .pre in (k .1 .3, omega (arith, k .0 .2, k .1 .3), omega (arith, k .0 .0 .short, k .1 .4), k .1 .2))
     (λ c. search needs)
@@ -17,10 +17,10 @@ hang-spec =
     (λ c. search needs)
     (λ c. search needs)
     (λ c. search needs)
-    (λ c. let o = subst (Looked _ _ _ _ _) (c .before .before .before .before .before .before .before .before .left .given .1) (c .before .before .before .before .before .before .before .before .before .before .before .before .occurs .ensures) in let n = c .before .before .before .before .bind .ensures in (record { cells-are = n .1 .0; trail-is = n .1 .1; count-is = n .0 }, o .0, o .1))
+    (λ c. let o = subst (Looked _ _ _ _ _) (c .before .before .before .before .before .before .before .before .left .given .1) (c .before .before .before .before .before .before .before .before .before .before .before .before .sought .ensures) in let n = c .before .before .before .before .bind .ensures in (record { cells-are = n .1 .0; trail-is = n .1 .1; count-is = n .0 }, o .0, o .1))
     (λ c. search needs)
     (λ c. search needs)
-    (λ c. (refl, refl, subst (Looked _ _ _ _ _) (c .enum-told .given .1) (c .before .before .before .before .occurs .ensures)))
+    (λ c. (refl, refl, subst (Looked _ _ _ _ _) (c .enum-told .given .1) (c .before .before .before .before .sought .ensures)))
     (λ c. search needs)
     (λ c. search needs)
     (λ c. (refl, refl)))

@@ -2,17 +2,17 @@ use native.Mathlib.Omega.{arith}
 use mathlib.Core.Path.{_≡_, refl, _∙_, subst}
 use lib.ListN.{length}
 use Rattle.matching.specs.Unifying.{Stepped}
-use Rattle.matching.specs.UnifyLaws.{Unifying, unify-start, unify-kept, first-pair, pair-few, unify-end, unify-done, unify-inside, unify-clash, unify-tired}
+use Rattle.matching.specs.UnifyLaws.{Unifying, unify-start, unify-kept, first-pair, still-unmixed, pair-few, unify-end, unify-done, unify-inside, unify-clash, unify-tired}
 use borrow.Author.Needs.{needs}
 use Rattle.matching.proofs.unifying.unify.Statement.{statement}
 use Rattle.matching.proofs.unifying.unify.Tie as tie
 
 abbrev Inv-loop : tie.InvT-loop
-Inv-loop heap cells₀ trail₀ levels₀ stack₀ p q base count₀ fuel₀ x₀ cells trail levels stack count fuel x =
-    Unifying heap cells₀ trail₀ (record { base = base; count = count₀; fuel = fuel₀ }) p q cells trail stack count fuel x × (length levels ≡ length levels₀) × (length stack ≡ length stack₀)
+Inv-loop heap cells₀ trail₀ levels₀ stack₀ p q base start count₀ fuel₀ x₀ cells trail levels stack count fuel x =
+    Unifying heap cells₀ trail₀ (record { base = base; start = start; count = count₀; fuel = fuel₀ }) p q cells trail stack count fuel x × (length levels ≡ length levels₀) × (length stack ≡ length stack₀)
 
 abbrev μ-loop : tie.MeasureT-loop
-μ-loop heap cells₀ trail₀ levels₀ stack₀ p q base count₀ fuel₀ x₀ cells trail levels stack count fuel x = fuel
+μ-loop heap cells₀ trail₀ levels₀ stack₀ p q base start count₀ fuel₀ x₀ cells trail levels stack count fuel x = fuel
 
 pub unify-spec : {M : Type 1} → statement M
 unify-spec =
@@ -36,7 +36,7 @@ unify-spec =
     (λ c. c .before .before .before .before .before .before .before .before .before .before .loop .inv .1)
     (λ c. c .before .before .before .before .before .before .before .before .before .before .loop .inv .2)
     (λ c. unify-kept (c .before .before .before .before .before .before .before .before .before .before .loop .inv .0))
-    (λ c κs. let u = c .before .before .before .before .before .before .before .before .before .before .before .before .before .loop .inv .0 in let k = c .before .before .before .before .before .before .before .before .before .before .before .before .before .before .before .before .before .before .before .pre in let w = first-pair u (c .before .before .before .before .before .before .before .before .before .before .before .if1 .taken) in let s = k .0 .1 in ((u .made, u .solved (s .0) (s .1), omega (arith, u .long, k .0 .2)), (omega (arith, u .less, k .1 .0), omega (arith, c .before .before .before .before .before .before .before .before .before .before .before .before .before .loop .inv .1, k .1 .1), omega (arith, u .spent, k .1 .2, u .trail-long, c .before .before .before .before .before .if2 .left), w .0, w .1)))
+    (λ c κs. let u = c .before .before .before .before .before .before .before .before .before .before .before .before .before .loop .inv .0 in let k = c .before .before .before .before .before .before .before .before .before .before .before .before .before .before .before .before .before .before .before .pre in let w = first-pair u (c .before .before .before .before .before .before .before .before .before .before .before .if1 .taken) in let s = k .0 .1 in ((u .made, u .solved (s .0) (s .1), omega (arith, u .long, k .0 .2), still-unmixed u (k .0 .5) 0), (omega (arith, u .less, k .1 .0), omega (arith, c .before .before .before .before .before .before .before .before .before .before .before .before .before .loop .inv .1, k .1 .1), omega (arith, u .spent, k .1 .2, u .trail-long, c .before .before .before .before .before .if2 .left), w .0, w .1)))
     (λ c. search needs)
     (λ c κs. let e = c .before .before .before .before .before .before .before .before .before .before .before .before .before .before .before .before .before .before .before .before .before .behind .ensures in (omega (arith, e .depth, c .before .before .before .before .before .before .before .before .before .before .before .before .before .before .if3 .left), omega (arith, e .depth, c .before .before .before .before .before .before .before .before .before .before .before .before .before .before .before .before .before .before .before .before .before .before .before .before .loop .inv .0 .due .room)))
     (λ c. let z = subst (Stepped _ _ _ _ _ _ _ _) (c .before .before .before .now .given .1) (c .before .before .before .before .before .before .before .before .before .before .before .make .ensures) in omega (arith, z .2, c .before .before .before .before .before .before .before .before .before .before .before .before .before .before .before .before .before .if2 .left))

@@ -2,8 +2,8 @@
 use borrow.Author.Needs.{needs}
 use native.Mathlib.Omega.{arith}
 use mathlib.Core.Path.{ap, _∙_}
-use Rattle.profile.specs.Outcome.{flatBookNumber}
-use Rattle.profile.specs.Numbers.{book-narrow}
+use Rattle.flatly.specs.Outcome.{flatBookNumber}
+use Rattle.flatly.specs.Numbers.{book-narrow}
 use Rattle.profile.proofs.firmware.pitxargole_flat_book.Statement.{statement}
 use Rattle.profile.proofs.firmware.pitxargole_flat_book.Tie as tie
 

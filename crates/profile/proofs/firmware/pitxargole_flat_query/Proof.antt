@@ -2,8 +2,8 @@
 use borrow.Author.Needs.{needs}
 use native.Mathlib.Omega.{arith}
 use mathlib.Core.Path.{ap, _∙_}
-use Rattle.profile.specs.Outcome.{flatQueryNumber}
-use Rattle.profile.specs.Numbers.{query-narrow}
+use Rattle.flatly.specs.Outcome.{flatQueryNumber}
+use Rattle.flatly.specs.Numbers.{query-narrow}
 use Rattle.profile.proofs.firmware.pitxargole_flat_query.Statement.{statement}
 use Rattle.profile.proofs.firmware.pitxargole_flat_query.Tie as tie
 

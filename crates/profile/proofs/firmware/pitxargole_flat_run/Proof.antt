@@ -3,7 +3,7 @@ use borrow.Author.Needs.{needs}
 use native.Mathlib.Omega.{arith}
 use mathlib.Core.Path.{ap, _∙_}
 use Rattle.outcomes.specs.Firmware.{number}
-use Rattle.profile.specs.Ways.{flat-run-narrow}
+use Rattle.flatly.specs.Ways.{flat-run-narrow}
 use Rattle.profile.proofs.firmware.pitxargole_flat_run.Statement.{statement}
 use Rattle.profile.proofs.firmware.pitxargole_flat_run.Tie as tie
 

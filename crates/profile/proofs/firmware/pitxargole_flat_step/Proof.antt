@@ -3,7 +3,7 @@ use borrow.Author.Needs.{needs}
 use native.Mathlib.Omega.{arith}
 use mathlib.Core.Path.{ap, _∙_}
 use Rattle.outcomes.specs.CallNumbers.{applyNumber}
-use Rattle.profile.specs.Ways.{flat-step-narrow}
+use Rattle.flatly.specs.Ways.{flat-step-narrow}
 use Rattle.profile.proofs.firmware.pitxargole_flat_step.Statement.{statement}
 use Rattle.profile.proofs.firmware.pitxargole_flat_step.Tie as tie
 

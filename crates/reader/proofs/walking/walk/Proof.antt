@@ -13,7 +13,7 @@ use Rattle.reader.proofs.walking.walk.Reads as reads
 use Rattle.reader.proofs.walking.walk.Lts as lts
 use Rattle.pieces.proofs.piece_at.Reads as piece-at-reads
 use Rattle.reader.proofs.walking.end.Reads as end-reads
-use Rattle.reader.proofs.walking.end_of.Reads as end-of-reads
+use Rattle.pieces.proofs.end_of.Reads as end-of-reads
 use Rattle.reader.proofs.walking.first.Reads as first-reads
 use Rattle.reader.proofs.walking.grow.Reads as grow-reads
 use Rattle.reader.proofs.walking.number_of.Reads as number-of-reads

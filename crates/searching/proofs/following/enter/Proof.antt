@@ -1,4 +1,4 @@
-use Rattle.searching.specs.Searching.{Somewhere}
+use Rattle.states.specs.States.{Somewhere}
 use mathlib.Core.Path.{sym, subst}
 use borrow.Author.Needs.{needs}
 use Rattle.searching.proofs.following.enter.Statement.{statement}

@@ -1,7 +1,8 @@
 use Prim.Native.Nat.{ℕ}
 use native.Mathlib.Omega.{arith}
 use lib.ListN.{length-replicate}
-use Rattle.stepping.proofs.Steps.{some-formula, gives-empty, gives-absent, gives-formula}
+use Rattle.picker.proofs.Picks.{some-formula}
+use Rattle.stepping.proofs.Steps.{gives-empty, gives-absent, gives-formula}
 use borrow.Author.Needs.{needs}
 use Rattle.stepping.proofs.apply.from_goal.Statement.{statement}
 use Rattle.stepping.proofs.apply.from_goal.Tie as tie

@@ -1,7 +1,7 @@
 use native.Mathlib.Omega.{arith}
 use mathlib.Core.Path.{_≡_, refl, sym as inv, ap, _∙_, subst}
 use Rattle.trying.specs.Stepping.{Quickly}
-use Rattle.trying.proofs.Quicks.{row-fits, some-formulas, parts-small, end-small, lent-made, lent-solved, quick-many, lent-placed, quickly}
+use Rattle.trying.proofs.Quicks.{row-fits, some-formulas, parts-small, end-small, lent-made, lent-solved, quick-many, lent-placed, lent-standing, here-undoable, quickly}
 use borrow.Author.Needs.{needs}
 use Rattle.trying.proofs.stepping.carry.Statement.{statement}
 use Rattle.trying.proofs.stepping.carry.Tie as tie
@@ -28,7 +28,7 @@ part-write-next-end : tie.Need-part-write-next-end
 part-write-next-end c = omega (arith, end-small (c .before .before .before .before .before .before .before .before .before .pre .1 .5) _ (c .end-of .ensures _ ((c .before .before .before .before .before .before .before .before .before .pre .1 .5) .inside)), c .before .before .before .before .before .before .before .before .before .pre .0 .0)
 
 write-next-requires : tie.Need-write-next-requires
-write-next-requires c κs = ((lent-made (c .before .before .before .before .before .before .before .before .before .before .before .before .pre .1 .5) _ (c .before .before .before .end-of .ensures _ ((c .before .before .before .before .before .before .before .before .before .before .before .before .pre .1 .5) .inside)), (_, lent-solved (c .before .before .before .before .before .before .before .before .before .before .before .before .pre .1 .5) _ (c .before .before .before .end-of .ensures _ ((c .before .before .before .before .before .before .before .before .before .before .before .before .pre .1 .5) .inside))), lent-placed (c .before .before .before .before .before .before .before .before .before .before .before .before .pre .1 .5) _ (c .before .before .before .before .before .before .parts-of .ensures _ ((c .before .before .before .before .before .before .before .before .before .before .before .before .pre .1 .5) .inside)) _ (c .before .before .before .end-of .ensures _ ((c .before .before .before .before .before .before .before .before .before .before .before .before .pre .1 .5) .inside))), (c .before .before .before .before .before .before .before .before .before .before .before .before .pre .0 .1, c .before .before .before .before .before .before .before .before .before .before .before .before .pre .0 .2, c .before .before .before .before .before .before .before .before .before .before .before .before .pre .0 .3))
+write-next-requires c κs = ((lent-made (c .before .before .before .before .before .before .before .before .before .before .before .before .pre .1 .5) _ (c .before .before .before .end-of .ensures _ ((c .before .before .before .before .before .before .before .before .before .before .before .before .pre .1 .5) .inside)), (_, lent-solved (c .before .before .before .before .before .before .before .before .before .before .before .before .pre .1 .5) _ (c .before .before .before .end-of .ensures _ ((c .before .before .before .before .before .before .before .before .before .before .before .before .pre .1 .5) .inside))), lent-placed (c .before .before .before .before .before .before .before .before .before .before .before .before .pre .1 .5) _ (c .before .before .before .before .before .before .parts-of .ensures _ ((c .before .before .before .before .before .before .before .before .before .before .before .before .pre .1 .5) .inside)) _ (c .before .before .before .end-of .ensures _ ((c .before .before .before .before .before .before .before .before .before .before .before .before .pre .1 .5) .inside)), lent-standing (c .before .before .before .before .before .before .before .before .before .before .before .before .pre .1 .5) _ (c .before .before .before .before .before .before .parts-of .ensures _ ((c .before .before .before .before .before .before .before .before .before .before .before .before .pre .1 .5) .inside)) _ (c .before .before .before .end-of .ensures _ ((c .before .before .before .before .before .before .before .before .before .before .before .before .pre .1 .5) .inside)), here-undoable (c .before .before .before .before .before .before .before .before .before .before .before .before .pre .1 .5) _ (c .before .before .before .before .before .before .parts-of .ensures _ ((c .before .before .before .before .before .before .before .before .before .before .before .before .pre .1 .5) .inside))), (c .before .before .before .before .before .before .before .before .before .before .before .before .pre .0 .1, c .before .before .before .before .before .before .before .before .before .before .before .before .pre .0 .2, c .before .before .before .before .before .before .before .before .before .before .before .before .pre .0 .3))
 
 concluded-requires : tie.Need-concluded-requires
 concluded-requires c κs = search needs

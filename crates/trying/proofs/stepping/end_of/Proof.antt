@@ -1,7 +1,7 @@
 use Prim.Native.Nat.{suc, _+_, _-_}
 use native.Mathlib.Omega.{arith}
 use mathlib.Core.Path.{_≡_, refl, ap, ap₂, _∙_}
-use Rattle.trying.proofs.Tests.{clause-ends}
+use Rattle.trials.proofs.Tests.{clause-ends}
 use borrow.Author.Needs.{needs}
 use Rattle.trying.proofs.stepping.end_of.Statement.{statement}
 use Rattle.trying.proofs.stepping.end_of.Tie as tie

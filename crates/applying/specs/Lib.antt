@@ -1,0 +1,2 @@
+-- One clause applied, in words.
+pub mod Applying

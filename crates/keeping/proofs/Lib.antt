@@ -1,0 +1,2 @@
+-- For the loops (Scans).
+pub mod Scans

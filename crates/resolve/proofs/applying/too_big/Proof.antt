@@ -1,6 +1,0 @@
-use mathlib.Core.Path.{refl}
-use Rattle.resolve.proofs.applying.too_big.Statement.{statement}
-use Rattle.resolve.proofs.applying.too_big.Tie as tie
-
-pub too-big-spec : {M : Type 1} → statement M
-too-big-spec = tie.close (tie.spec (λ c. refl))

@@ -1,0 +1,2 @@
+-- The states of a run, as they are held.
+pub mod States

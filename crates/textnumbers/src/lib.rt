@@ -1,0 +1,26 @@
+// What printing and reading answer, each as the one number that C gets.
+use numbers::pack;
+use printouts::Printout;
+use readouts::ReadText;
+ghost use mathlib.Core.Path.{_≡_};
+ghost use Rattle.textnumbers.specs.Numbers.{TextNarrow, textNumber, ReadNarrow, readNumber};
+
+pub fn text_number(p: Printout) -> u64
+    requires { ⌜ TextNarrow p ⌝ }
+    ensures { λ r. ⌜ r ≡ textNumber p ⌝ }
+{
+    if p.code == 0 {
+        return pack(p.code, p.bytes as u32, 0);
+    }
+    pack(p.code, p.place as u32, 0)
+}
+
+pub fn read_number(r: ReadText) -> u64
+    requires { ⌜ ReadNarrow r ⌝ }
+    ensures { λ n. ⌜ n ≡ readNumber r ⌝ }
+{
+    if r.code == 0 {
+        return pack(r.code, r.book, r.names);
+    }
+    pack(r.code, r.place, r.names)
+}

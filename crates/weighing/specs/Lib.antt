@@ -1,0 +1,2 @@
+-- Why no clause fits.
+pub mod Stuck
