@@ -5,3 +5,6 @@ pub mod ListLaws
 pub mod Tests
 pub mod Meaning
 pub mod NamingLaws
+pub mod Table
+pub mod Growing
+pub mod SpeltLaws

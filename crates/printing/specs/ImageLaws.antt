@@ -20,11 +20,11 @@ encode-append [] b = refl
 encode-append (r ∷ a) b = ap (λ (l : List ℕ). encodeRecord r ++ l) (encode-append a b) ∙ inv (append-assoc (encodeRecord r) (encode a) (encode b))
 
 module _ (ρ : Renumbering) where
-  renumber-append : (d e : Expr) → renumber ρ (d ++ e) ≡ renumber ρ d ++ renumber ρ e
+  pub renumber-append : (d e : Expr) → renumber ρ (d ++ e) ≡ renumber ρ d ++ renumber ρ e
   renumber-append [] e = refl
   renumber-append (x ∷ d) e = ap (λ (l : Expr). renumber-node ρ x ∷ l) (renumber-append d e)
 
-  flat-renumber : (g : Next.Goal) → flat (renumber-goal ρ g) ≡ renumber ρ (flat g)
+  pub flat-renumber : (g : Next.Goal) → flat (renumber-goal ρ g) ≡ renumber ρ (flat g)
   flat-renumber [] = refl
   flat-renumber (f ∷ g) = ap (λ (l : Expr). renumber ρ f ++ l) (flat-renumber g) ∙ inv (renumber-append f (flat g))
 

@@ -4,6 +4,7 @@ pub mod SpacingLaws
 pub mod Named
 pub mod NamedLaws
 pub mod DigitLaws
+pub mod VariableLaws
 pub mod FirstLaws
 pub mod Renumbered
 pub mod RenumberLaws
@@ -11,5 +12,6 @@ pub mod UseLaws
 pub mod OrderLaws
 pub mod SizeLaws
 pub mod ImageLaws
+pub mod ArityLaws
 pub mod Theorem
 pub mod Examples

@@ -1,9 +1,10 @@
--- What is named and numbered again by the places of its names is renumbered by these places; its variables keep their numbers.
+-- What is named and numbered again by the places of its names is renumbered by these places; its variables are numbered by first appearance.
 use Prim.Native.Nat.{ℕ, _≤_, _<_}
 use mathlib.Core.Path.{_≡_, refl, ap, ap₂, _∙_}
 use mathlib.Core.List.{List, [], _∷_, _++_, map}
 use native.Mathlib.Omega.{arith}
 use Rattle.terms.specs.Node.{constant, compound, predicate, var, sym, Expr}
+use Rattle.terms.specs.Number.{grow, seen-after, number, number-all}
 use Rattle.search.specs.Next as Next
 use Rattle.words.specs.Flat.{flat}
 use Rattle.format.specs.Reading.{nextUnused}
@@ -18,6 +19,7 @@ use Rattle.grammar.specs.Names.{Sort, place, variable-number, with-variable, va
 use Rattle.printing.specs.Named.{Naming, variable-name, named-formula, named-formulas, named-rule, named-rules}
 use Rattle.printing.specs.NamedLaws.{spots, formula-spotted}
 use Rattle.printing.specs.DigitLaws.{name-one}
+use Rattle.printing.specs.VariableLaws.{Low, LowIn, formula-low, called, grow-called, grow-low, number-called, seen-called, seen-low}
 use Rattle.printing.specs.FirstLaws.{names-below, below-length, Follows, follows}
 use Rattle.printing.specs.Renumbered.{Renumbering, renumber, renumber-goal, renumber-clause, renumber-book}
 
@@ -68,15 +70,6 @@ module _ (name : Naming) (table : Sort → List (List ℕ)) where
   places k n = place (name k n) (table k)
 
   module _ (most : ℕ) (low : most ≤ 100000) where
-    named-numbered : (m : ℕ) (e : Expr) → m ≤ most → Ordered m e → Below most e → numbered table (variables m) (spots name e) ≡ renumber places e
-    named-numbered m [] k o b = refl
-    named-numbered m (var v ∷ e) k o b =
-        let s = seen-variable m v (omega (arith, b .0)) (omega arith) (o .0) in
-        ap₂ (λ (n : ℕ) (x : Expr). var n ∷ x) (s .at) (ap (λ (l : List (List ℕ)). numbered table l (spots name e)) (s .seen) ∙ named-numbered (nextUnused m v) e (next-low most m v (b .0) k) (o .1) (b .1))
-    named-numbered m (sym (constant c) ∷ e) k o b = rw (named-numbered m e k o b)
-    named-numbered m (sym (compound f n) ∷ e) k o b = rw (named-numbered m e k o b)
-    named-numbered m (sym (predicate p n) ∷ e) k o b = rw (named-numbered m e k o b)
-
     named-seen : (m : ℕ) (e : Expr) → m ≤ most → Ordered m e → Below most e → variables-after (variables m) (spots name e) ≡ variables (seen-behind m e)
     named-seen m [] k o b = refl
     named-seen m (var v ∷ e) k o b =
@@ -86,22 +79,31 @@ module _ (name : Naming) (table : Sort → List (List ℕ)) where
     named-seen m (sym (compound f n) ∷ e) k o b = named-seen m e k o b
     named-seen m (sym (predicate p n) ∷ e) k o b = named-seen m e k o b
 
-    pub goal-numbered : (m : ℕ) (g : Next.Goal) → m ≤ most → AreFormulas g → Ordered m (flat g) → Below most (flat g) → numbered-all table (variables m) (named-formulas name g) ≡ renumber-goal places g
-    goal-numbered m [] k h o b = refl
-    goal-numbered m (f ∷ g) k h o b =
-        let s = formula-spotted name f (h .0) in
-        let p = ordered-front m f (flat g) o in
-        let q = below-front most f (flat g) b in
-        ap₂ (λ (e : Expr) (r : Next.Goal). e ∷ r) (ap (numbered table (variables m)) s ∙ named-numbered m f k p q)
-        (ap (λ (l : List (List ℕ)). numbered-all table l (named-formulas name g)) (ap (variables-after (variables m)) s ∙ named-seen m f k p q)
-        ∙ goal-numbered (seen-behind m f) g (behind-low most m f q k) (h .1) (ordered-back m f (flat g) o) (below-back most f (flat g) b))
-
     -- not more variables than there may be numbers
     pub variables-low : (e : Expr) → Ordered 0 e → Below most e → length (variables-after [] (spots name e)) ≤ most
     variables-low e o b = omega (arith, ap length (named-seen 0 e (omega arith) o b), below-length variable-name (seen-behind 0 e), behind-low most 0 e b (omega arith))
 
+  named-numbered : (l : List ℕ) (e : Expr) → Low l → LowIn e → numbered table (called l) (spots name e) ≡ renumber places (number l e)
+  named-numbered l [] k h = refl
+  named-numbered l (var v ∷ e) k h =
+      ap₂ (λ (n : ℕ) (x : Expr). var n ∷ x) (number-called v (h .0) l k)
+      (ap (λ (s : List (List ℕ)). numbered table s (spots name e)) (grow-called v (h .0) l k) ∙ named-numbered (grow l v) e (grow-low v (h .0) l k) (h .1))
+  named-numbered l (sym (constant c) ∷ e) k h = rw (named-numbered l e k h)
+  named-numbered l (sym (compound f n) ∷ e) k h = rw (named-numbered l e k h)
+  named-numbered l (sym (predicate p n) ∷ e) k h = rw (named-numbered l e k h)
+
+  -- variables numbered by first appearance (document 01, "Records")
+  pub goal-numbered : (l : List ℕ) (g : Next.Goal) → Low l → AreFormulas g → numbered-all table (called l) (named-formulas name g) ≡ renumber-goal places (number-all l g)
+  goal-numbered l [] k h = refl
+  goal-numbered l (f ∷ g) k h =
+      let s = formula-spotted name f (h .0) in
+      let low = formula-low f (h .0) in
+      ap₂ (λ (e : Expr) (r : Next.Goal). e ∷ r) (ap (numbered table (called l)) s ∙ named-numbered l f k low)
+      (ap (λ (r : List (List ℕ)). numbered-all table r (named-formulas name g)) (ap (variables-after (called l)) s ∙ seen-called name l f k low)
+      ∙ goal-numbered (seen-after l f) g (seen-low l f k low) (h .1))
+
   clause-numbered : (c : Next.Clause) → GoodClause c → clause table (named-rule name c) ≡ renumber-clause places c
-  clause-numbered c good = of-goal (goal-numbered 64 (omega arith) 0 (c .head ∷ c .body) (omega arith) (good .formulas) (ordered (c .head ∷ c .body) (good .fitting .numbered)) (good .fitting .below))
+  clause-numbered c good = of-goal (goal-numbered [] (c .head ∷ c .body) tt (good .formulas) ∙ ap (renumber-goal places) (good .fitting .numbered))
     where
       of-goal : numbered-all table [] (named-formulas name (c .head ∷ c .body)) ≡ renumber-goal places (c .head ∷ c .body) → clause table (named-rule name c) ≡ renumber-clause places c
       of-goal e = cc

@@ -33,11 +33,12 @@ use Rattle.printing.specs.Theorem.{renumbering, low-one, printed-reads, printed
 use Rattle.namelist.specs.List.{Entry, IsList, naming}
 use Rattle.namelist.specs.Meaning.{entries-one}
 use Rattle.namelist.specs.NamingLaws.{AllNamed, some, named-means, named-fit, named-distinct}
+use Rattle.namelist.specs.Table.{EachFit, table-entries, table-naming}
+use Rattle.namelist.specs.SpeltLaws.{writes-right, names-fit}
 use Rattle.printouts.specs.declared.Printout.{Printout}
 use Rattle.printouts.specs.Outcome.{Prints, not-good, no-list, no-name, no-room, prints, outcome, outcome-area, printAnswer, printArea, PrintsBook}
 use Rattle.printouts.specs.OutcomeLaws.{outcome-prints}
-use Rattle.printouts.specs.SpeltLaws.{EachFit, writes-right, names-fit}
-use Rattle.printouts.specs.OwnLaws.{own, own-list, own-naming}
+use Rattle.printouts.specs.OwnLaws.{own-list}
 
 -- Code 0: the text stands at the area's front
 
@@ -80,8 +81,11 @@ module _ (bytes names area : List ℕ) (book-bytes : Bytes bytes) (names-bytes :
   abbrev name : Naming
   name = naming (printed-out .entries)
 
+  pub checked : bookVerdict bytes .code ≡ 0
+  checked = code-good told zero-code
+
   good : GoodBook b
-  good = bookOf-good bytes book-bytes (code-good told zero-code) .0
+  good = bookOf-good bytes book-bytes checked .0
 
   fit : AllFit name (book-nodes b)
   fit = named-fit (printed-out .entries) (printed-out .list .proper) (book-nodes b) (printed-out .all)
@@ -170,14 +174,14 @@ module _ (text₀ list₀ : List ℕ) (b : Next.Book) (r : Reading text₀ b lis
   each-fit k = names-fit cs k (writes-right cs (r .writes)) (r .sized .rules)
 
   -- its list is a name list
-  pub read-list : IsList list₀ (own (names cs))
-  read-list = subst (λ (s : List ℕ). IsList s (own (names cs))) (inv (r .list-is)) (own-list cs few each-fit)
+  pub read-list : IsList list₀ (table-entries (names cs))
+  read-list = subst (λ (s : List ℕ). IsList s (table-entries (names cs))) (inv (r .list-is)) (own-list cs few each-fit)
 
   -- and names all its symbols: printing refuses neither with 45 nor with 44
-  pub read-named : AllNamed (own (names cs)) (book-nodes b)
+  pub read-named : AllNamed (table-entries (names cs)) (book-nodes b)
   read-named k n u =
       let l = used-low k (names cs) n [] numbered refl u in
-      record { called = _; within = named-means (own (names cs)) k n (ap some (own-naming (names cs) k n l) ∙ fit-some (names cs k) n (each-fit k) l) }
+      record { called = _; within = named-means (table-entries (names cs)) k n (ap some (table-naming (names cs) k n) ∙ fit-some (names cs k) n (each-fit k) l) }
 
   module _ (area : List ℕ) (book-bytes : Bytes (encodeBook b)) (names-bytes : Bytes list₀) (zero-code : printAnswer (encodeBook b) list₀ area .code ≡ 0) where
     abbrev o : Out (book-nodes (bookOf (encodeBook b))) (λ name. printed name (bookOf (encodeBook b))) list₀ area (printAnswer (encodeBook b) list₀ area) (printArea (encodeBook b) list₀ area)
@@ -187,7 +191,7 @@ module _ (text₀ list₀ : List ℕ) (b : Next.Book) (r : Reading text₀ b lis
     same-book = bookOf-image b read-good
 
     same-name-of : (k : Sort) (n : ℕ) → n < length (names cs k) → naming (o .entries) k n ≡ getD (names cs k) n []
-    same-name-of k n h = ap (λ (l : List Entry). naming l k n) (entries-one list₀ (o .entries) (own (names cs)) (o .list) read-list) ∙ own-naming (names cs) k n h
+    same-name-of k n h = ap (λ (l : List Entry). naming l k n) (entries-one list₀ (o .entries) (table-entries (names cs)) (o .list) read-list) ∙ table-naming (names cs) k n
 
     names-again : (k : Sort) → names (named-rules (naming (o .entries)) b) k ≡ names cs k
     names-again k =

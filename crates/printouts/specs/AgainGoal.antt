@@ -1,4 +1,4 @@
--- A goal that is printed is read again (document 02, C-14) as it was, against the names that it was printed with.
+-- A goal that is printed is read again (document 02, C-14) as it was, against the names that it was printed with; an answer as it was but for the numbers of its variables.
 use Prim.Native.Nat.{ℕ, zero, suc, _≤_, _<_}
 use mathlib.Core.Path.{_≡_, refl, sym as inv, ap, ap₂, _∙_, subst}
 use mathlib.Core.Logic.{inl, inr}
@@ -8,13 +8,16 @@ use native.Mathlib.Omega.{arith}
 use lib.ListN.{length, getD, take}
 use Rattle.terms.specs.Cases.{cases}
 use Rattle.terms.specs.Node.{constant, compound, predicate, var, sym, Expr}
+use Rattle.terms.specs.Number.{number, number-all}
+use Rattle.terms.specs.Number as Number
 use Rattle.search.specs.Next as Next
-use Rattle.words.specs.Flat.{flat, flat-size}
-use Rattle.format.specs.Format.{GoodGoal, Bytes}
+use Rattle.search.specs.Room.{nodes}
+use Rattle.words.specs.Flat.{flat, flat-size, flat-number}
+use Rattle.format.specs.declared.Check.{Check}
+use Rattle.format.specs.Format.{AreFormulas, Bytes}
 use Rattle.format.specs.Reading.{queryVerdict}
 use Rattle.format.specs.Decode.{goalOf}
 use Rattle.format.proofs.Decoding.{goalOf-good}
-use Rattle.format.proofs.Numbering.{ordered}
 use Rattle.grammar.specs.Syntax.{Formula}
 use Rattle.grammar.specs.Names.{Sort, Constant, Compound, Predicate, symbol-of, same-name, place, within, is-sort, names-after, list-of}
 use Rattle.grammar.specs.NameLaws.{same-refl, same-true}
@@ -29,8 +32,11 @@ use Rattle.printing.specs.SpacingLaws.{goal-asks}
 use Rattle.printing.specs.SizeLaws.{AllFit, formulas-right, formulas-small, formulas-length, spots-length}
 use Rattle.namelist.specs.List.{Entry, IsList, naming}
 use Rattle.namelist.specs.NamingLaws.{AllNamed, some, named-means, named-is, named-fit, named-distinct}
-use Rattle.printouts.specs.Outcome.{goalAnswer, goalArea, PrintsGoal}
+use Rattle.printouts.specs.declared.Printout.{Printout}
+use Rattle.printouts.specs.Outcome.{Prints, outcome, outcome-area, goalAnswer, goalArea}
 use Rattle.printouts.specs.OutcomeLaws.{outcome-prints}
+use Rattle.printouts.specs.Answer.{answerVerdict, foundAnswer, foundArea}
+use Rattle.printouts.specs.AnswerLaws.{GoodFound, found-good}
 use Rattle.printouts.specs.Again.{Out, out, code-good, lists-same}
 
 -- The names of a table
@@ -70,33 +76,43 @@ stays-goal : (ρ : Renumbering) (g : Next.Goal) → ((k : Sort) (n : ℕ) → Us
 stays-goal ρ [] h = refl
 stays-goal ρ (f ∷ g) h = ap goal-of (stays-book ρ (record { head = f; body = g } ∷ []) (λ k n u. h k n (subst (Uses k n) (append-nil (flat (f ∷ g))) u)))
 
--- The goal
+-- Numbering variables leaves the symbols
 
-module _ (given : Given) (name : Naming) (g : Next.Goal) (good : GoodGoal g) (fit : AllFit name (flat g)) (known : Known given name (flat g)) where
+uses-number : (k : Sort) (n : ℕ) (seen : List ℕ) (e : Expr) → Uses k n (number seen e) → Uses k n e
+uses-number k n seen [] u = u
+uses-number k n seen (var v ∷ e) (inl (a, p)) = let z : _≡_ {A = ℕ} 0 1 = cc in absurd (omega arith)
+uses-number k n seen (var v ∷ e) (inr u) = inr (uses-number k n (Number.grow seen v) e u)
+uses-number k n seen (sym y ∷ e) (inl p) = inl p
+uses-number k n seen (sym y ∷ e) (inr u) = inr (uses-number k n seen e u)
+
+-- Formulas within a goal's sizes, whatever numbers their variables have
+
+module _ (given : Given) (name : Naming) (g : Next.Goal) (formulas : AreFormulas g) (few : length g ≤ 512) (size : nodes g ≤ 4096) (fit : AllFit name (flat g)) (known : Known given name (flat g)) where
   abbrev fs : List Formula
   fs = named-formulas name g
 
   given-stays : (k : Sort) → names-with given fs k ≡ given k
-  given-stays k = ap (names-after k (given k)) (formulas-spotted name g (good .formulas)) ∙ names-stay name k (given k) (flat g) (known .there k)
+  given-stays k = ap (names-after k (given k)) (formulas-spotted name g formulas) ∙ names-stay name k (given k) (flat g) (known .there k)
 
-  goal-back : goal given fs ≡ g
+  goal-back : goal given fs ≡ number-all [] g
   goal-back =
-      goal-numbered name (names-with given fs) 65536 (omega arith) 0 g (omega arith) (good .formulas) (ordered g (good .fitting .numbered)) (good .fitting .below)
-      ∙ stays-goal (places name (names-with given fs)) g (λ k n u. ap (place (name k n)) (given-stays k) ∙ known .at k n u)
+      goal-numbered name (names-with given fs) [] g tt formulas
+      ∙ stays-goal (places name (names-with given fs)) (number-all [] g)
+      (λ k n u. ap (place (name k n)) (given-stays k) ∙ known .at k n (uses-number k n [] (flat g) (subst (Uses k n) (flat-number [] g) u)))
 
-  pub goal-reads : length (printed-goal name g) ≤ 65536 → ReadingQuery given (printed-goal name g) g (list-of (names-with given fs))
+  goal-reads : length (printed-goal name g) ≤ 65536 → ReadingQuery given (printed-goal name g) (number-all [] g) (list-of given)
   goal-reads short =
       record {
         formulas = fs;
-        asks = goal-asks fs (formulas-right name g (good .formulas) fit);
+        asks = goal-asks fs (formulas-right name g formulas fit);
         sized = record {
-          few = omega (arith, formulas-length name g, good .few);
-          formulas = formulas-small name g (good .formulas) fit;
-          nodes = omega (arith, ap length (formulas-spotted name g (good .formulas)), spots-length name (flat g), flat-size g, good .fitting .size);
+          few = omega (arith, formulas-length name g, few);
+          formulas = formulas-small name g formulas fit;
+          nodes = omega (arith, ap length (formulas-spotted name g formulas), spots-length name (flat g), flat-size g, size);
         };
         short = short;
         goal-is = inv goal-back;
-        list-is = refl;
+        list-is = inv (lists-same (names-with given fs) given given-stays);
       }
 
 -- Names by their numbers
@@ -142,37 +158,68 @@ module _ (given : Given) (names : List ℕ) (l : List Entry) (list : IsList name
   pub known : (e : Expr) → AllNamed l e → Known given (naming l) e
   known e all = record { there = λ k n u. known-by e all k n u .0; at = λ k n u. known-by e all k n u .1 }
 
--- What is left by printing with code 0
-module _ (book bytes names area : List ℕ) (goal-bytes : Bytes bytes) (names-bytes : Bytes names) (zero-code : goalAnswer book bytes names area .code ≡ 0) where
-  told : PrintsGoal book bytes names area (goalAnswer book bytes names area) (goalArea book bytes names area)
-  told = outcome-prints (queryVerdict book bytes) (flat (goalOf bytes)) (λ name. printed-goal name (goalOf bytes)) names area names-bytes
+-- What is left by printing with code 0, of a goal or an answer
 
-  pub goal-out : Out (flat (goalOf bytes)) (λ name. printed-goal name (goalOf bytes)) names area (goalAnswer book bytes names area) (goalArea book bytes names area)
-  goal-out = out told zero-code
+module _ (found : Check) (bytes names area : List ℕ) (names-bytes : Bytes names) (good : found .code ≡ 0 → GoodFound bytes) where
+  abbrev g : Next.Goal
+  g = goalOf bytes
+
+  abbrev p : Printout
+  p = outcome found (flat g) (λ name. printed-goal name g) names area
+
+  abbrev text : List ℕ
+  text = take (p .bytes) (outcome-area found (flat g) (λ name. printed-goal name g) names area)
+
+  module _ (zero-code : p .code ≡ 0) where
+    told : Prints found (flat g) (λ name. printed-goal name g) names area p (outcome-area found (flat g) (λ name. printed-goal name g) names area)
+    told = outcome-prints found (flat g) (λ name. printed-goal name g) names area names-bytes
+
+    pub zero-found : found .code ≡ 0
+    zero-found = code-good told zero-code
+
+    pub goal-out : Out (flat g) (λ name. printed-goal name g) names area p (outcome-area found (flat g) (λ name. printed-goal name g) names area)
+    goal-out = out told zero-code
+
+    -- it is read against the names that it was printed with, its variables numbered by first appearance and with no name that is new
+    pub is-read : (given : Given) → Tells (goal-out .entries) given → ReadingQuery given text (number-all [] g) (list-of given)
+    is-read given tells =
+        let q = good zero-found in
+        subst (λ (t : List ℕ). ReadingQuery given t (number-all [] g) (list-of given)) (inv (goal-out .front))
+        (goal-reads given (naming (goal-out .entries)) g (q .formulas) (q .few) (q .size) (named-fit (goal-out .entries) (goal-out .list .proper) (flat g) (goal-out .all))
+        (known given names (goal-out .entries) (goal-out .list) tells (flat g) (goal-out .all)) (goal-out .short))
+
+-- A goal: it has these numbers
+module _ (book bytes names area : List ℕ) (goal-bytes : Bytes bytes) (names-bytes : Bytes names) where
+  pub goal-good : queryVerdict book bytes .code ≡ 0 → GoodFound bytes
+  goal-good z = let q = goalOf-good book bytes goal-bytes z in record { few = q .0 .few; formulas = q .0 .formulas; size = q .0 .fitting .size; image = q .1 }
 
   abbrev pub goal-text-of : List ℕ
   goal-text-of = take (goalAnswer book bytes names area .bytes) (goalArea book bytes names area)
 
-  module _ (given : Given) (tells : Tells (goal-out .entries) given) where
-    abbrev name : Naming
-    name = naming (goal-out .entries)
+  module _ (zero-code : goalAnswer book bytes names area .code ≡ 0) where
+    pub goal-checked : queryVerdict book bytes .code ≡ 0
+    goal-checked = zero-found (queryVerdict book bytes) bytes names area names-bytes goal-good zero-code
 
-    goal-good : GoodGoal (goalOf bytes)
-    goal-good = goalOf-good book bytes goal-bytes (code-good told zero-code) .0
+    module _ (given : Given) (tells : Tells (goal-out (queryVerdict book bytes) bytes names area names-bytes goal-good zero-code .entries) given) where
+      -- it is read as the same goal
+      pub goal-is-read : ReadingQuery given goal-text-of (goalOf bytes) (list-of given)
+      goal-is-read =
+          subst (λ (g : Next.Goal). ReadingQuery given goal-text-of g (list-of given)) (goalOf-good book bytes goal-bytes goal-checked .0 .fitting .numbered)
+          (is-read (queryVerdict book bytes) bytes names area names-bytes goal-good zero-code given tells)
 
-    goal-known : Known given name (flat (goalOf bytes))
-    goal-known = known given names (goal-out .entries) (goal-out .list) tells (flat (goalOf bytes)) (goal-out .all)
+      -- and as nothing else
+      pub goal-read-same : {g : Next.Goal} {list : List ℕ} → ReadingQuery given goal-text-of g list → (g ≡ goalOf bytes) × (list ≡ list-of given)
+      goal-read-same r = query-one r goal-is-read
 
-    goal-fit : AllFit name (flat (goalOf bytes))
-    goal-fit = named-fit (goal-out .entries) (goal-out .list .proper) (flat (goalOf bytes)) (goal-out .all)
+-- An answer: its variables are numbered afresh, in the order in which they appear
+module _ (book bytes names area : List ℕ) (found-bytes : Bytes bytes) (names-bytes : Bytes names) where
+  abbrev pub found-text-of : List ℕ
+  found-text-of = take (foundAnswer book bytes names area .bytes) (foundArea book bytes names area)
 
-    -- it is read, as the same goal and with no name that is new
-    pub goal-is-read : ReadingQuery given goal-text-of (goalOf bytes) (list-of given)
-    goal-is-read =
-        subst (ReadingQuery given goal-text-of (goalOf bytes)) (lists-same (names-with given (named-formulas name (goalOf bytes))) given (given-stays given name (goalOf bytes) goal-good goal-fit goal-known))
-        (subst (λ (t : List ℕ). ReadingQuery given t (goalOf bytes) (list-of (names-with given (named-formulas name (goalOf bytes))))) (inv (goal-out .front))
-        (goal-reads given name (goalOf bytes) goal-good goal-fit goal-known (goal-out .short)))
+  module _ (zero-code : foundAnswer book bytes names area .code ≡ 0) where
+    pub found-checked : answerVerdict book bytes .code ≡ 0
+    found-checked = zero-found (answerVerdict book bytes) bytes names area names-bytes (found-good book bytes found-bytes) zero-code
 
-    -- and as nothing else
-    pub goal-read-same : {g : Next.Goal} {list : List ℕ} → ReadingQuery given goal-text-of g list → (g ≡ goalOf bytes) × (list ≡ list-of given)
-    goal-read-same r = query-one r goal-is-read
+    pub found-is-read : (given : Given) → Tells (goal-out (answerVerdict book bytes) bytes names area names-bytes (found-good book bytes found-bytes) zero-code .entries) given →
+        ReadingQuery given found-text-of (number-all [] (goalOf bytes)) (list-of given)
+    found-is-read = is-read (answerVerdict book bytes) bytes names area names-bytes (found-good book bytes found-bytes) zero-code

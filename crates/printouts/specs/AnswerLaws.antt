@@ -14,8 +14,9 @@ use Rattle.format.specs.declared.Record.the-variants.{Variable, Goal}
 use Rattle.format.specs.Reading.{bodyLength, numberAt, recordAt}
 use Rattle.format.specs.Format as Format
 use Rattle.format.specs.Format.{recordKind, encodeRecord, encode, nodeRecord, nodeRecords, goalRecords, encodeGoal, Bytes, terms-none, terms-var, terms-constant, terms-compound, formula, IsFormula, AreFormulas, GoodGoal}
-use Rattle.format.specs.Decode.{recordsFrom, nodesOf, formulasOf, formulasAfter, goalOf}
-use Rattle.format.proofs.Decoding.{records-back, goalOf-good}
+use Rattle.format.specs.Arities.{Use, use-of, nodeUses, bookUses, OneArity, Suits}
+use Rattle.format.specs.Decode.{bookOf, recordsFrom, nodesOf, formulasOf, formulasAfter, goalOf}
+use Rattle.format.proofs.Decoding.{records-back, goalOf-good, goalOf-suits}
 use Rattle.format.proofs.Failing.{record-length}
 use Rattle.format.proofs.Premises.{formula-row}
 use Rattle.printouts.specs.Answer.{clear-at, cleared, unnumbered, answerVerdict}
@@ -26,6 +27,13 @@ pub data Like : Expr → Expr → Type 0 where
   like-none : Like [] []
   like-var : {v w : ℕ} {d e : Expr} → v < 65536 → Like d e → Like (var v ∷ d) (var w ∷ e)
   like-sym : {y : Symbol} {d e : Expr} → Like d e → Like (sym y ∷ d) (sym y ∷ e)
+
+pub like-uses : {d e : Expr} → Like d e → nodeUses d ≡ nodeUses e
+like-uses like-none = refl
+like-uses (like-var h l) = like-uses l
+like-uses (like-sym {y = constant c} l) = like-uses l
+like-uses (like-sym {y = compound f n} l) = like-uses l
+like-uses (like-sym {y = predicate p n} l) = ap (λ (us : List Use). use-of p n ∷ us) (like-uses l)
 
 like-length : {d e : Expr} → Like d e → length d ≡ length e
 like-length like-none = refl
@@ -137,15 +145,28 @@ module _ (book s : List ℕ) (bytes : Bytes s) (z : answerVerdict book s .code �
   good : GoodGoal g × (encodeGoal g ≡ unnumbered s)
   good = goalOf-good book (unnumbered s) (cleared-bytes (length s) s 0 bytes) z
 
-  found-by : (k : ℕ) → length s ≡ k → GoodFound s
+  record Found : Type 0 where
+    good-found : GoodFound s
+    like : Like (flat (goalOf s)) (flat g)
+
+  found-by : (k : ℕ) → length s ≡ k → Found
   found-by zero n = absurd (omega (arith, ap length (good .1), cleared-length (length s) s 0, some-bytes (Goal (length g)) (encode (nodeRecords (flat g)))))
   found-by (suc k) n =
       let b = stood k s 0 bytes (Goal (length g)) (encode (nodeRecords (flat g))) (ap (λ (m : ℕ). cleared m s 0) (inv n) ∙ inv (good .1)) in
       let d = nodes-stood (flat g) k (clear-at s 0) (0 + 1 + bodyLength 6) (clear-bytes s 0 bytes) (omega (arith, clear-length s 0, n)) (b .later) in
       let f = formulas-like g (d .these) (good .0 .formulas) (d .like) in
-      made s (f .goal) (f .formulas) (omega (arith, f .many, good .0 .few)) (omega (arith, flat-size (f .goal), ap length (f .is), like-length (d .like), flat-size g, good .0 .fitting .size))
-      (b .image
-      ∙ ap₂ (λ (r : Record) (x : List ℕ). encodeRecord r ++ x) (b .item (λ y. let z : ⊥ = omega (arith, y) in z) ∙ ap Goal (inv (f .many))) (d .image ∙ ap (λ (x : Expr). encode (nodeRecords x)) (f .is)))
+      let e : s ≡ encodeGoal (f .goal) =
+      b .image
+      ∙ ap₂ (λ (r : Record) (x : List ℕ). encodeRecord r ++ x) (b .item (λ y. let z : ⊥ = omega (arith, y) in z) ∙ ap Goal (inv (f .many))) (d .image ∙ ap (λ (x : Expr). encode (nodeRecords x)) (f .is)) in
+      record {
+        good-found = made s (f .goal) (f .formulas) (omega (arith, f .many, good .0 .few)) (omega (arith, flat-size (f .goal), ap length (f .is), like-length (d .like), flat-size g, good .0 .fitting .size)) e;
+        like = subst (λ (x : Expr). Like x (flat g)) (f .is ∙ ap flat (inv (read-back s (f .goal) (f .formulas) e))) (d .like);
+      }
 
   pub found-good : GoodFound s
-  found-good = found-by (length s) refl
+  found-good = found-by (length s) refl .good-found
+
+  -- it keeps one arity with the book, as its check found
+  pub found-suits : Bytes book → Suits (bookOf book) (goalOf s)
+  found-suits book-bytes =
+      subst (λ (us : List Use). OneArity (bookUses (bookOf book) ++ us)) (inv (like-uses (found-by (length s) refl .like))) (goalOf-suits book (unnumbered s) book-bytes (cleared-bytes (length s) s 0 bytes) z)

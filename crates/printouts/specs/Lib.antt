@@ -4,12 +4,11 @@ pub mod Laying
 pub mod WalkLaws
 pub mod Outcome
 pub mod OutcomeLaws
-pub mod SpeltLaws
 pub mod OwnLaws
 pub mod Again
-pub mod AgainGoal
 pub mod Answer
 pub mod ClearLaws
 pub mod AnswerLaws
 pub mod AnswerImage
 pub mod AnswerCases
+pub mod AgainGoal

@@ -18,7 +18,7 @@ use Rattle.grammar.specs.Query.{Given}
 use Rattle.namelist.specs.List.{Entry, ToEach, Along, Proper, Apart, IsList}
 use Rattle.namelist.specs.Bytes.{entries-of, is-list}
 use Rattle.namelist.specs.Meaning.{list-means, list-is, entries-are}
-use Rattle.questions.specs.Table.{AllFit, Distinct, GoodTable, entries-on, table-entries, table-list}
+use Rattle.namelist.specs.Table.{EachFit, NoneTwice, GoodTable, entries-on, table-entries, table-list}
 
 -- "a list in C-13's form": as its reader writes it, numbers from 0 and none left out. So few that 4,096 more of a sort have numbers of two bytes.
 pub record Gives (s : List ℕ) (g : Given) : Type 0 where
@@ -50,7 +50,7 @@ both : (a b : Bool) → (a && b) ≡ true → (a ≡ true) × (b ≡ true)
 both true b e = (refl, e)
 both false b e = absurd (true≢false (inv e))
 
-names-fit : (k : Sort) (l : List Entry) → ToEach Proper l → AllFit (names-of k l)
+names-fit : (k : Sort) (l : List Entry) → ToEach Proper l → EachFit (names-of k l)
 names-fit k [] h = tt
 names-fit k (x ∷ l) h = cases (is-sort k (x .sort)) (λ e. rw e (h .0 .fit, names-fit k l (h .1))) (λ e. rw e (names-fit k l (h .1)))
 
@@ -74,7 +74,7 @@ names-outside k x (y ∷ l) e h =
     (cases (same-name (x .name) (y .name)) (λ q. absurd (h .0 (inv e ∙ same-sort k (y .sort) p) (same-true (x .name) (y .name) q))) (λ q. rw q (names-outside k x l e (h .1)))))
     (λ p. rw p (names-outside k x l e (h .1)))
 
-names-distinct : (k : Sort) (l : List Entry) → Along Apart l → Distinct (names-of k l)
+names-distinct : (k : Sort) (l : List Entry) → Along Apart l → NoneTwice (names-of k l)
 names-distinct k [] h = tt
 names-distinct k (x ∷ l) h =
     cases (is-sort k (x .sort)) (λ e. rw e (names-outside k x l (same-sort k (x .sort) e) (h .0), names-distinct k l (h .1))) (λ e. rw e (names-distinct k l (h .1)))
@@ -132,7 +132,7 @@ lists-same : (g h : Given) → ((k : Sort) → g k ≡ h k) → list-of g ≡ li
 lists-same g h e = ap₂ _++_ (ap (entries Constant 0) (e Constant)) (ap₂ _++_ (ap (entries Compound 0) (e Compound)) (ap (entries Predicate 0) (e Predicate)))
 
 module _ (s : List ℕ) (g : Given) (h : Gives s g) where
-  listed : IsList s (table-entries g)
+  pub listed : IsList s (table-entries g)
   listed = rw (h .is) (table-list 61439 g (h .good) (omega arith))
 
   pub given-is : (k : Sort) → given-of s k ≡ g k

@@ -1,10 +1,10 @@
 -- The first formula whose predicate had another arity before (document 02, C-18).
-use Prim.Native.Nat.{ℕ, suc, _+_}
+use Prim.Native.Nat.{ℕ, suc, _+_, _<_}
 use mathlib.Core.Path.{_≡_, refl, sym as inv, ap, _∙_, subst}
 use mathlib.Core.Bool.{true, false, true≢false}
 use mathlib.Core.List.{List, [], _∷_, _++_, append-assoc, append-nil}
 use native.Mathlib.Omega.{arith}
-use lib.ListN.{length}
+use lib.ListN.{length, length-append}
 use Rattle.terms.specs.When.{_⇒_∣_}
 use Rattle.terms.specs.Cases.{cases}
 use Rattle.format.specs.declared.Record.the-variants as Record
@@ -86,9 +86,6 @@ clash-kept us vs k c =
     let z : kept (recall nothing-met (us ++ c .before)) (u ∷ c .after) ≡ 0 = rw e in
     ap (kept (recall nothing-met us)) (c .whole) ∙ kept-on us (c .before) (u ∷ c .after) (c .one) ∙ omega (arith, z, c .count)
 
-length-append : (a b : List Use) → length (a ++ b) ≡ length a + length b
-length-append [] b = omega arith
-length-append (x ∷ a) b = omega (arith, length-append a b)
-
-pub clash-fewer : (us vs : List Use) (k : ℕ) → Clashes us vs k → k ≡ length vs → ⊥
-clash-fewer us vs k c e = omega (arith, e, c .count, ap length (c .whole), length-append (c .before) (c .clashing ∷ c .after))
+-- a clash stands at a formula
+pub clash-low : (us vs : List Use) (k : ℕ) → Clashes us vs k → k < length vs
+clash-low us vs k c = omega (arith, c .count, ap length (c .whole), length-append (c .before) (c .clashing ∷ c .after))

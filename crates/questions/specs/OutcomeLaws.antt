@@ -22,16 +22,19 @@ use Rattle.grammar.specs.Names.{Sort, formulas-spots, list-of}
 use Rattle.grammar.specs.Query.{Given, names-with, goal}
 use Rattle.grammar.specs.GoodLaws.{query-good}
 use Rattle.namelist.specs.List.{IsList}
+use Rattle.namelist.specs.Table.{table-entries, table-list}
+use Rattle.namelist.specs.SpeltLaws.{asks-fit}
 use Rattle.asking.specs.Asking.{Outcome, read, refused, asking}
 use Rattle.asking.specs.Refusal.{Refusal}
 use Rattle.asking.specs.FaultLaws.{Accepted}
 use Rattle.asking.specs.AskingLaws.{refusal-code, asking-iff, refusal-iff}
 use Rattle.questions.specs.declared.ReadQuery.{ReadQuery}
-use Rattle.questions.specs.Table.{table-entries, table-list}
 use Rattle.questions.specs.Given.{Gives, given-of, gives, gives-means, gives-is, given-is}
-use Rattle.questions.specs.NewNames.{asks-fit, with-good, names-begin}
+use Rattle.questions.specs.NewNames.{with-good, names-begin}
 use Rattle.questions.specs.Outcome.{refusal, kept, formula-at, image, list, uses, suited, room, answered, filled, by-text, outcome, image-of, list-from, query-area, list-area}
-use Rattle.questions.specs.Kept.{Clashes, View, all-kept, clash, kept-view, kept-all, clash-kept, clash-fewer}
+use Rattle.readouts.specs.ClashLaws.{formulas-uses}
+use Rattle.questions.specs.Place.{FormulaAt, place-is, formula-there}
+use Rattle.questions.specs.Kept.{Clashes, View, all-kept, clash, kept-view, kept-all, clash-kept, clash-low}
 
 abbrev pub given-answer : Given → List Formula → ReadQuery
 given-answer g fs = record { code = 0; place = 0; query = length (encodeGoal (goal g fs)); names = length (list-of (names-with g fs)) }
@@ -45,8 +48,8 @@ module _ (text book names query list′ : List ℕ) where
     not-good : (good → ⊥) → Reads (refusal (bookVerdict book .code) (bookVerdict book .place)) query list′
     no-list : good → ((g : Given) → Gives names g → ⊥) → Reads (refusal 45 0) query list′
     bad-text : {g : Given} {c i : ℕ} → good → Gives names g → Refusal text c i → Reads (refusal c i) query list′
-    two-arities : {g : Given} {fs : List Formula} {k : ℕ} → good → Gives names g → Accepted text fs → Clashes (bookUses (bookOf book)) (goalUses (goal g fs)) k →
-        Reads (refusal 17 (formula-at text k)) query list′
+    two-arities : {g : Given} {fs : List Formula} {k at : ℕ} → good → Gives names g → Accepted text fs → Clashes (bookUses (bookOf book)) (goalUses (goal g fs)) k → FormulaAt text k at →
+        Reads (refusal 17 at) query list′
     no-room : {g : Given} {fs : List Formula} → good → Gives names g → Accepted text fs → Suits (bookOf book) (goal g fs) →
         (length query < length (encodeGoal (goal g fs))) ⊎ (length list′ < length (list-of (names-with g fs))) → Reads (refusal 43 0) query list′
     reads : {g : Given} {fs : List Formula} → good → Gives names g → Accepted text fs → Suits (bookOf book) (goal g fs) → length (encodeGoal (goal g fs)) ≤ length query →
@@ -123,7 +126,7 @@ module _ (text book names query list′ : List ℕ) where
     two-said k c =
         let q = clash-kept (bookUses (bookOf book)) (goalUses (goal own fs)) k c in
         subst (λ (j : ℕ). Is (refusal 17 (formula-at text j)) query list′) q
-        (is-two h w fs e (λ z. clash-fewer (bookUses (bookOf book)) (goalUses (goal own fs)) k c (inv q ∙ z)))
+        (is-two h w fs e (λ z. omega (arith, clash-low (bookUses (bookOf book)) (goalUses (goal own fs)) k c, q, z)))
 
     module _ (s : Suits (bookOf book) (goal own fs)) where
       all : suited text book own fs ≡ length (goalUses (goal own fs))
@@ -144,9 +147,10 @@ module _ (text book names query list′ : List ℕ) where
   reads-is bn (not-good n) = is-not-good n
   reads-is bn (no-list h n) = is-no-list h (cases (gives names) (λ e. absurd (n (given-of names) (gives-means names bn e))) (λ e. e))
   reads-is bn (bad-text {g} {c} {i} h v r) = is-bad-text h (gives-is names g v) c i (refusal-iff text c i .1 r) (λ (z : c ≡ 0). omega (arith, z, refusal-code r))
-  reads-is bn (two-arities {g} {fs} {k} h v a c) =
-      two-said h (gives-is names g v) fs (asking-iff text fs .1 a) k
-      (subst (λ (x : Given). Clashes (bookUses (bookOf book)) (goalUses (goal x fs)) k) (inv (given-same g v)) c)
+  reads-is bn (two-arities {g} {fs} {k} h v a c f) =
+      subst (λ (i : ℕ). Is (refusal 17 i) query list′) (inv (place-is f))
+      (two-said h (gives-is names g v) fs (asking-iff text fs .1 a) k
+      (subst (λ (x : Given). Clashes (bookUses (bookOf book)) (goalUses (goal x fs)) k) (inv (given-same g v)) c))
   reads-is bn (no-room {g} {fs} h v a s m) =
       no-room-said h (gives-is names g v) fs (asking-iff text fs .1 a) (subst (λ (x : Given). Suits (bookOf book) (goal x fs)) (inv (given-same g v)) s)
       (subst (λ (x : Given). (length query < length (encodeGoal (goal x fs))) ⊎ (length list′ < length (list-of (names-with x fs)))) (inv (given-same g v)) m)
@@ -190,7 +194,9 @@ module _ (text book names query list′ : List ℕ) where
 
     view-said : (fs : List Formula) (k : ℕ) → Accepted text fs → View (bookUses (bookOf book)) (goalUses (goal (given-of names) fs)) k → Said
     view-said fs k a (all-kept o) = room-said fs a o
-    view-said fs k a (clash c) = said bn (two-arities h given-here a c)
+    view-said fs k a (clash c) =
+        let f = formula-there text fs k (a .asks) (omega (arith, clash-low (bookUses (bookOf book)) (goalUses (goal (given-of names) fs)) k c, formulas-uses (names-with (given-of names) fs) [] fs)) in
+        said bn (two-arities h given-here a c f)
 
     text-said : (o : Outcome) → asking text ≡ o → Said
     text-said (refused c i) e = said bn (bad-text h given-here (refusal-iff text c i .0 e))

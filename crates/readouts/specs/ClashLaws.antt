@@ -17,6 +17,7 @@ use Rattle.format.specs.declared.Record.the-variants.{Formula}
 use Rattle.format.specs.Arities.{Use, use-of, nodeUses, goalUses, bookUses, Used, OneArity, Memory, nothing-met, recall, keeps}
 use Rattle.format.specs.ArityLaws.{recall-append, used-left, used-right, arity-iff, one-more}
 use Rattle.format.proofs.Meaning.{one-none}
+use Rattle.printing.specs.ArityLaws.{uses-append}
 use Rattle.readouts.specs.declared.Arities.{Arities}
 use Rattle.readouts.specs.declared.Arities.the-variants.{One, Two}
 use Rattle.readouts.specs.Place.{formulas-in}
@@ -113,14 +114,7 @@ terms-uses T seen (name-then w own ts) r h = term-uses T seen (count own) w (spo
 formula-uses : (T : Sort → List (List ℕ)) (seen : List (List ℕ)) (f : Syntax.Formula) → length (nodeUses (numbered T seen (formula-spots f))) ≡ 1
 formula-uses T seen f = ap suc (terms-uses T seen (f .arguments) [] (λ s. refl))
 
-uses-append : (d e : Expr) → nodeUses (d ++ e) ≡ nodeUses d ++ nodeUses e
-uses-append [] e = refl
-uses-append (var v ∷ d) e = uses-append d e
-uses-append (sym (constant c) ∷ d) e = uses-append d e
-uses-append (sym (compound f n) ∷ d) e = uses-append d e
-uses-append (sym (predicate p n) ∷ d) e = ap (λ (l : List Use). use-of p n ∷ l) (uses-append d e)
-
-formulas-uses : (T : Sort → List (List ℕ)) (seen : List (List ℕ)) (fs : List Syntax.Formula) → length (goalUses (numbered-all T seen fs)) ≡ length fs
+pub formulas-uses : (T : Sort → List (List ℕ)) (seen : List (List ℕ)) (fs : List Syntax.Formula) → length (goalUses (numbered-all T seen fs)) ≡ length fs
 formulas-uses T seen [] = refl
 formulas-uses T seen (f ∷ fs) =
     let e = numbered T seen (formula-spots f) in

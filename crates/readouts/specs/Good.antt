@@ -18,7 +18,7 @@ use Rattle.grammar.specs.GoodLaws.{reading-checked}
 use Rattle.reading.specs.Part.{State}
 use Rattle.reading.specs.Refusal.{Before, Refusal, long-text, unexpected-byte, unexpected-second, longest-name, out-of-range, size-passed, long-book}
 use Rattle.namelist.specs.List.{IsList}
-use Rattle.printouts.specs.OwnLaws.{own}
+use Rattle.namelist.specs.Table.{table-entries}
 use Rattle.printouts.specs.Again.{read-list}
 use Rattle.readouts.specs.declared.ReadText.{ReadText}
 use Rattle.readouts.specs.Place.{FormulaAt}
@@ -131,5 +131,5 @@ module _ (text books lists : List ℕ) where
     read-checked = ap bookVerdict (read-out .image) ∙ reading-checked (read-out .reading) (read-out .one-arity)
 
     -- and its names are in C-13's form
-    pub read-names : IsList (take (readAnswer text books lists .names) (readNames text books lists)) (own (names (read-out .reading .rules)))
-    read-names = subst (λ (s : List ℕ). IsList s (own (names (read-out .reading .rules)))) (inv (read-out .names-are)) (read-list text (read-out .list) (read-out .book) (read-out .reading))
+    pub read-names : IsList (take (readAnswer text books lists .names) (readNames text books lists)) (table-entries (names (read-out .reading .rules)))
+    read-names = subst (λ (s : List ℕ). IsList s (table-entries (names (read-out .reading .rules)))) (inv (read-out .names-are)) (read-list text (read-out .list) (read-out .book) (read-out .reading))

@@ -87,7 +87,7 @@ seek-past {j = j} {e = e} at (comment c ∷ ps) qs p =
 
 -- Pieces one behind the other
 
-pieces-past : (n m : ℕ) (ps : List Piece) (left : List ℕ) → n ≡ length ps + m → Spaced-to ps left → pieces-of n (bytes ps ++ left) ≡ ps ++ pieces-of m left
+pub pieces-past : (n m : ℕ) (ps : List Piece) (left : List ℕ) → n ≡ length ps + m → Spaced-to ps left → pieces-of n (bytes ps ++ left) ≡ ps ++ pieces-of m left
 pieces-past n m [] left q s = ap (λ (i : ℕ). pieces-of i left) (let z : n ≡ m = omega arith in z)
 pieces-past zero m (p ∷ ps) left q s = absurd (omega arith)
 pieces-past (suc n) m (p ∷ ps) left q s =
@@ -98,13 +98,13 @@ pieces-past (suc n) m (p ∷ ps) left q s =
     behind [] h = tt
     behind (x ∷ qs) h = h .1
 
-pieces-few : (ps : List Piece) (left : List ℕ) → Spaced-to ps left → length ps ≤ length (bytes ps)
+pub pieces-few : (ps : List Piece) (left : List ℕ) → Spaced-to ps left → length ps ≤ length (bytes ps)
 pieces-few [] left s = omega arith
 pieces-few (p ∷ []) left s = omega (arith, spelt-long p left s, length-append (spelt p) [])
 pieces-few (p ∷ q ∷ ps) left s =
     omega (arith, spelt-long p (bytes (q ∷ ps) ++ left) (fits-stays p (bytes (q ∷ ps) ++ left) (s .0)), length-append (spelt p) (bytes (q ∷ ps)), pieces-few (q ∷ ps) left (s .1))
 
-name-first : (m : ℕ) (w rest : List ℕ) → Stands (name w) rest → 0 < m → pieces-of m (w ++ rest) ≡ token (name w) ∷ pieces-of (m - 1) rest
+pub name-first : (m : ℕ) (w rest : List ℕ) → Stands (name w) rest → 0 < m → pieces-of m (w ++ rest) ≡ token (name w) ∷ pieces-of (m - 1) rest
 name-first zero w rest s h = absurd (omega arith)
 name-first (suc m) w rest s h = rw (front-is (token (name w)) rest s) (ap (λ (i : ℕ). token (name w) ∷ pieces-of i rest) (let z : m ≡ suc m - 1 = omega arith in z))
 

@@ -29,7 +29,7 @@ arguments-append later (name-then w own ts) r s =
 formula-append : (f : Formula) (r s t : List Token) → t ≡ r ++ s → formula-then f t ≡ formula-then f r ++ s
 formula-append f r s t e = ap (λ (l : List Token). name (f .symbol) ∷ l) (ap (arguments-then first (f .arguments)) e ∙ arguments-append first (f .arguments) r s)
 
-commas-append : (fs : List Formula) (r s : List Token) → commas-then fs (r ++ s) ≡ commas-then fs r ++ s
+pub commas-append : (fs : List Formula) (r s : List Token) → commas-then fs (r ++ s) ≡ commas-then fs r ++ s
 commas-append [] r s = refl
 commas-append (f ∷ fs) r s = formula-append f (comma ∷ commas-then fs r) s (comma ∷ commas-then fs (r ++ s)) (ap (λ (l : List Token). comma ∷ l) (commas-append fs r s))
 
@@ -95,13 +95,13 @@ in-rules (c ∷ cs) (suc k) h =
 
 -- Pieces split at a token
 
-record Parted (qs : List Piece) (ts : List Token) (t : Token) : Type 0 where
-  front : List Piece
-  back : List Piece
-  are : qs ≡ front ++ (token t ∷ back)
-  listed : tokens front ≡ ts
+pub record Parted (qs : List Piece) (ts : List Token) (t : Token) : Type 0 where
+  pub front : List Piece
+  pub back : List Piece
+  pub are : qs ≡ front ++ (token t ∷ back)
+  pub listed : tokens front ≡ ts
 
-parted : (qs : List Piece) (ts : List Token) (t : Token) (us : List Token) → tokens qs ≡ ts ++ (t ∷ us) → Parted qs ts t
+pub parted : (qs : List Piece) (ts : List Token) (t : Token) (us : List Token) → tokens qs ≡ ts ++ (t ∷ us) → Parted qs ts t
 parted [] [] t us e = let z : _≡_ {A = ℕ} 0 1 = cc in absurd (omega arith)
 parted [] (x ∷ ts) t us e = let z : _≡_ {A = ℕ} 0 1 = cc in absurd (omega arith)
 parted (token u ∷ qs) [] t us e = let p : u ≡ t = cc in record { front = []; back = qs; are = ap (λ (x : Token). token x ∷ qs) p; listed = refl }
@@ -112,7 +112,7 @@ parted (token u ∷ qs) (x ∷ ts) t us e =
 parted (blank b ∷ qs) ts t us e = let i = parted qs ts t us e in record { front = blank b ∷ i .front; back = i .back; are = ap (λ (l : List Piece). blank b ∷ l) (i .are); listed = i .listed }
 parted (comment c ∷ qs) ts t us e = let i = parted qs ts t us e in record { front = comment c ∷ i .front; back = i .back; are = ap (λ (l : List Piece). comment c ∷ l) (i .are); listed = i .listed }
 
-spaced-front : (ps : List Piece) (t : Token) (rs : List Piece) → Spaced (ps ++ (token t ∷ rs)) → Spaced-to ps (bytes (token t ∷ rs)) × Stands t (bytes rs)
+pub spaced-front : (ps : List Piece) (t : Token) (rs : List Piece) → Spaced (ps ++ (token t ∷ rs)) → Spaced-to ps (bytes (token t ∷ rs)) × Stands t (bytes rs)
 spaced-front [] t rs s = (tt, s .0)
 spaced-front (p ∷ []) t rs s = (fits-stays p (bytes (token t ∷ rs)) (s .0), s .1 .0)
 spaced-front (p ∷ q ∷ ps) t rs s =

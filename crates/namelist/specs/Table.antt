@@ -1,37 +1,36 @@
 -- Tables of names, sort by sort, and the lists that they are written as: numbers from 0, none left out (document 02, C-13).
-use Prim.Native.Nat.{ℕ, suc, _+_, _/_, _%_, _≤_, _<_}
+use Prim.Native.Nat.{ℕ, zero, suc, _+_, _/_, _%_, _≤_, _<_}
 use mathlib.Core.Path.{_≡_, refl, sym as inv, ap, ap₂, _∙_}
-use mathlib.Core.Bool.{Bool, true, false, _&&_, true≢false}
+use mathlib.Core.Bool.{true, false, true≢false}
 use mathlib.Core.Logic.{_⊎_, inl, inr}
 use mathlib.Core.List.{List, [], _∷_, _++_, append-assoc, append-nil}
 use native.Mathlib.Omega.{arith}
-use lib.ListN.{length}
-use Rattle.terms.specs.When.{_⇒_∣_}
+use borrow.Author.Tests.{eq-eqb, ne-eqb}
+use lib.ListN.{length, getD}
 use Rattle.terms.specs.Cases.{cases}
 use Rattle.grammar.specs.Names.{Sort, Constant, Compound, Predicate, same-name, within, is-sort, kind, entries, list-of}
-use Rattle.grammar.specs.NameLaws.{same-refl, same-true}
+use Rattle.grammar.specs.NameLaws.{same-refl}
+use Rattle.grammar.specs.GrowLaws.{is-sort-self}
 use Rattle.grammar.specs.Query.{Given}
 use Rattle.printing.specs.SizeLaws.{Fit}
-use Rattle.namelist.specs.List.{Entry, listed, Before, ToEach, Along, Proper, Apart, IsList}
+use Rattle.namelist.specs.List.{Entry, listed, Before, ToEach, Along, Proper, Apart, IsList, naming}
+use Rattle.namelist.specs.NamingLaws.{entry}
 
-abbrev pub AllFit : List (List ℕ) → Type 0
-AllFit [] = Unit {0}
-AllFit (w ∷ l) = Fit w × AllFit l
+abbrev pub EachFit : List (List ℕ) → Type 0
+EachFit [] = Unit {0}
+EachFit (w ∷ l) = Fit w × EachFit l
 
-abbrev pub Distinct : List (List ℕ) → Type 0
-Distinct [] = Unit {0}
-Distinct (w ∷ l) = (within w l ≡ false) × Distinct l
+abbrev pub NoneTwice : List (List ℕ) → Type 0
+NoneTwice [] = Unit {0}
+NoneTwice (w ∷ l) = (within w l ≡ false) × NoneTwice l
 
 -- names of C-13's form, none twice in a sort, so many of a sort at most
 pub record GoodTable (most : ℕ) (g : Given) : Type 0 where
   pub few : (k : Sort) → length (g k) ≤ most
-  pub fit : (k : Sort) → AllFit (g k)
-  pub apart : (k : Sort) → Distinct (g k)
+  pub fit : (k : Sort) → EachFit (g k)
+  pub apart : (k : Sort) → NoneTwice (g k)
 
 -- Entries
-
-abbrev pub entry : Sort → ℕ → List ℕ → Entry
-entry k n w = record { sort = k; number = n; name = w }
 
 abbrev pub entries-on : Sort → ℕ → List (List ℕ) → List Entry
 entries-on k n [] = []
@@ -90,11 +89,11 @@ rises-table g =
     each-append (Before (entry Constant i w)) f p (each-on (Before (entry Constant i w)) Compound 0 (g Compound) (λ o v s t. inl (omega arith)))
     (each-on (Before (entry Constant i w)) Predicate 0 (g Predicate) (λ o v s t. inl (omega arith)))))
 
-proper-on : (k : Sort) (n : ℕ) (l : List (List ℕ)) → n + length l ≤ 65536 → AllFit l → ToEach Proper (entries-on k n l)
+proper-on : (k : Sort) (n : ℕ) (l : List (List ℕ)) → n + length l ≤ 65536 → EachFit l → ToEach Proper (entries-on k n l)
 proper-on k n [] h f = tt
 proper-on k n (w ∷ l) h f = (record { low = omega arith; fit = f .0 }, proper-on k (suc n) l (omega arith) (f .1))
 
-other-name : (w v : List ℕ) (l : List (List ℕ)) → within w (v ∷ l) ≡ false → (w ≡ v → ⊥) × (within w l ≡ false)
+pub other-name : (w v : List ℕ) (l : List (List ℕ)) → within w (v ∷ l) ≡ false → (w ≡ v → ⊥) × (within w l ≡ false)
 other-name w v l e =
     cases (same-name w v) (λ h. absurd (true≢false (rw h at e)))
     (λ h. (λ (q : w ≡ v). true≢false (inv (same-refl v) ∙ ap (λ (z : List ℕ). same-name z v) (inv q) ∙ h), rw h at e))
@@ -103,14 +102,14 @@ outside-on : (k : Sort) (i n : ℕ) (w : List ℕ) (l : List (List ℕ)) → wit
 outside-on k i n w [] e = tt
 outside-on k i n w (v ∷ l) e = let o = other-name w v l e in (λ q r. o .0 r, outside-on k i (suc n) w l (o .1))
 
-apart-on : (k : Sort) (n : ℕ) (l : List (List ℕ)) → Distinct l → Along Apart (entries-on k n l)
+apart-on : (k : Sort) (n : ℕ) (l : List (List ℕ)) → NoneTwice l → Along Apart (entries-on k n l)
 apart-on k n [] d = tt
 apart-on k n (w ∷ l) d = (outside-on k n (suc n) w l (d .0), apart-on k (suc n) l (d .1))
 
 sorts-apart : (k j : Sort) → (kind k ≡ kind j → ⊥) → (i o : ℕ) (w v : List ℕ) → Apart (entry k i w) (entry j o v)
 sorts-apart k j d i o w v e q = absurd (d (ap kind e))
 
-apart-table : (g : Given) → ((k : Sort) → Distinct (g k)) → Along Apart (table-entries g)
+apart-table : (g : Given) → ((k : Sort) → NoneTwice (g k)) → Along Apart (table-entries g)
 apart-table g d =
     let c = entries-on Constant 0 (g Constant) in
     let f = entries-on Compound 0 (g Compound) in
@@ -138,3 +137,24 @@ table-list most g t h =
           (proper-on Compound 0 (g Compound) (omega (arith, t .few Compound)) (t .fit Compound)) (proper-on Predicate 0 (g Predicate) (omega (arith, t .few Predicate)) (t .fit Predicate)));
       apart = apart-table g (t .apart);
     }
+
+-- What the list calls a symbol
+
+sort-naming : (k : Sort) (m n i : ℕ) (l : List (List ℕ)) (r : List Entry) → m + n ≡ i → naming r k i ≡ [] → naming (entries-on k m l ++ r) k i ≡ getD l n []
+sort-naming k m n i [] r q h = h
+sort-naming k m zero i (w ∷ l) r q h = rw (is-sort-self k, eq-eqb i m (omega arith)) refl
+sort-naming k m (suc n) i (w ∷ l) r q h = rw (is-sort-self k, ne-eqb i m (λ (e : i ≡ m). omega arith)) (sort-naming k (suc m) n i l r (omega arith) h)
+
+skip : (k j : Sort) (m n : ℕ) (l : List (List ℕ)) (r : List Entry) → is-sort k j ≡ false → naming (entries-on j m l ++ r) k n ≡ naming r k n
+skip k j m n [] r h = refl
+skip k j m n (w ∷ l) r h = rw h (skip k j (suc m) n l r h)
+
+last-skip : (k j : Sort) (n : ℕ) (l : List (List ℕ)) → is-sort k j ≡ false → naming (entries-on j 0 l) k n ≡ []
+last-skip k j n l h = ap (λ (r : List Entry). naming r k n) (inv (append-nil (entries-on j 0 l))) ∙ skip k j 0 n l [] h
+
+pub table-naming : (g : Given) (k : Sort) (n : ℕ) → naming (table-entries g) k n ≡ getD (g k) n []
+table-naming g Constant n = sort-naming Constant 0 n n (g Constant) _ (omega arith) (skip Constant Compound 0 n (g Compound) _ refl ∙ last-skip Constant Predicate n (g Predicate) refl)
+table-naming g Compound n = skip Compound Constant 0 n (g Constant) _ refl ∙ sort-naming Compound 0 n n (g Compound) _ (omega arith) (last-skip Compound Predicate n (g Predicate) refl)
+table-naming g Predicate n =
+    skip Predicate Constant 0 n (g Constant) _ refl ∙ skip Predicate Compound 0 n (g Compound) _ refl
+    ∙ ap (λ (l : List Entry). naming l Predicate n) (inv (append-nil (entries-on Predicate 0 (g Predicate)))) ∙ sort-naming Predicate 0 n n (g Predicate) [] (omega arith) refl

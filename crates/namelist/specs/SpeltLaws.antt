@@ -1,17 +1,18 @@
--- The names of a text that is read are of C-13's form.
+-- The names of a text or a query that is read are of C-13's form.
 use Prim.Native.Nat.{ℕ, _≤_}
 use mathlib.Core.Path.{_≡_, refl, sym as inv, subst}
-use mathlib.Core.Bool.{true, false}
 use mathlib.Core.List.{List, [], _∷_, _++_}
 use lib.ListN.{length}
-use Rattle.terms.specs.Cases.{cases}
 use Rattle.grammar.specs.Byte.{IsName, IsVariable}
 use Rattle.grammar.specs.Token.{Token, name, variable, opening, closing, comma, arrow, stop, Piece, token, blank, comment, Spaced, tokens, Spells}
 use Rattle.grammar.specs.Syntax.{Terms, none, variable-then, name-then, Formula, Rule, Turn, first, later, arguments-then, formula-then, body-then, written}
-use Rattle.grammar.specs.Names.{Sort, Spot, variable-spot, symbol-spot, spots-then, formula-spots, formulas-spots, text-spots, within, grow, is-sort, names-after, names}
+use Rattle.grammar.specs.Names.{Sort, Spot, variable-spot, symbol-spot, spots-then, formula-spots, formulas-spots, text-spots, names}
 use Rattle.grammar.specs.Reading.{Small, SmallFormulas, SmallRules, Writes}
+use Rattle.grammar.specs.Query.{End, more-then, ends-with, asked, Asks, SizedQuery}
 use Rattle.printing.specs.SpacingLaws.{Right, RightFormulas, RightRules}
 use Rattle.printing.specs.SizeLaws.{Fit}
+use Rattle.namelist.specs.Table.{EachFit}
+use Rattle.namelist.specs.Growing.{AllSpots, fit-after}
 
 -- Words are spelt rightly
 
@@ -71,12 +72,16 @@ written-right (c ∷ cs) h =
 pub writes-right : {text : List ℕ} (cs : List Rule) → Writes text cs → RightRules cs
 writes-right cs w = written-right cs (subst Words (inv (w .listed)) (words-spaced (w .pieces) (w .spaced)))
 
--- Names of spots
+more-right : (fs : List Formula) (r : List Token) → Words (more-then fs r) → RightFormulas fs
+more-right [] r h = tt
+more-right (f ∷ fs) r h = let p = arguments-right first (f .arguments) (more-then fs r) (h .1 .1) in (record { symbol = h .1 .0; arguments = p .0 }, more-right fs r (p .1))
 
-abbrev AllSpots : List Spot → Type 0
-AllSpots [] = Unit {0}
-AllSpots (variable-spot w ∷ e) = AllSpots e
-AllSpots (symbol-spot k w n ∷ e) = Fit w × AllSpots e
+asked-right : (fs : List Formula) (z : End) → Words (asked fs z) → RightFormulas fs
+asked-right [] z h = tt
+asked-right (f ∷ fs) z h =
+    let p = arguments-right first (f .arguments) (more-then fs (ends-with z)) (h .1) in (record { symbol = h .0; arguments = p .0 }, more-right fs (ends-with z) (p .1))
+
+-- Names of spots
 
 spots-append : (d e : List Spot) → AllSpots d → AllSpots e → AllSpots (d ++ e)
 spots-append [] e p q = q
@@ -100,24 +105,8 @@ text-fit : (cs : List Rule) → RightRules cs → SmallRules cs → AllSpots (te
 text-fit [] h s = tt
 text-fit (c ∷ cs) h s = spots-append (formulas-spots (c .head ∷ c .body)) (text-spots cs) (formulas-fit (c .head ∷ c .body) (h .0) (s .0 .formulas)) (text-fit cs (h .1) (s .1))
 
--- The names by first appearance are those, each once
-
-abbrev pub EachFit : List (List ℕ) → Type 0
-EachFit [] = Unit {0}
-EachFit (w ∷ l) = Fit w × EachFit l
-
-fit-last : (l : List (List ℕ)) (w : List ℕ) → EachFit l → Fit w → EachFit (l ++ (w ∷ []))
-fit-last [] w h f = (f, tt)
-fit-last (v ∷ l) w h f = (h .0, fit-last l w (h .1) f)
-
-fit-grow : (l : List (List ℕ)) (w : List ℕ) → EachFit l → Fit w → EachFit (grow l w)
-fit-grow l w h f = cases (within w l) (λ t. rw t h) (λ t. rw t (fit-last l w h f))
-
-fit-after : (k : Sort) (seen : List (List ℕ)) (e : List Spot) → EachFit seen → AllSpots e → EachFit (names-after k seen e)
-fit-after k seen [] h s = h
-fit-after k seen (variable-spot w ∷ e) h s = fit-after k seen e h s
-fit-after k seen (symbol-spot j w n ∷ e) h s =
-    cases (is-sort k j) (λ t. rw t (fit-after k (grow seen w) e (fit-grow seen w h (s .0)) (s .1))) (λ t. rw t (fit-after k seen e h (s .1)))
-
 pub names-fit : (cs : List Rule) (k : Sort) → RightRules cs → SmallRules cs → EachFit (names cs k)
 names-fit cs k h s = fit-after k [] (text-spots cs) tt (text-fit cs h s)
+
+pub asks-fit : {text : List ℕ} (fs : List Formula) → Asks text fs → SizedQuery fs → AllSpots (formulas-spots fs)
+asks-fit fs a s = formulas-fit fs (asked-right fs (a .ending) (subst Words (inv (a .spelt .listed)) (words-spaced (a .spelt .pieces) (a .spelt .spaced)))) (s .formulas)
