@@ -1,0 +1,4 @@
+-- What the proofs of the functions share.
+pub mod Scanning  -- records one by one
+pub mod Goals  -- the records of a book, and the nodes of a goal
+pub mod Seeking  -- the search for a formula's place

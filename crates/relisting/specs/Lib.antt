@@ -1,0 +1,2 @@
+-- The name list with the new names in it.
+pub mod Relisted
