@@ -14,147 +14,111 @@ use Rattle.halfway.proofs.modes.settled.Reads as settled-reads
 use Rattle.halfway.proofs.modes.unless.Reads as unless-reads
 use Rattle.halfway.proofs.modes.when.Reads as when-reads
 
--- src/modes.rt:99:27
 enum-told : tie.Need-enum-told
 enum-told c = search needs
 
--- src/modes.rt:99:27
 on-name-requires : tie.Need-on-name-requires
 on-name-requires c κs = search needs
 
--- src/modes.rt:100:31
 enum-told-2 : tie.Need-enum-told-2
 enum-told-2 c = search needs
 
--- src/modes.rt:100:31
 on-variable-requires : tie.Need-on-variable-requires
 on-variable-requires c κs = search needs
 
--- src/modes.rt:101:25
 enum-told-3 : tie.Need-enum-told-3
 enum-told-3 c = search needs
 
--- src/modes.rt:101:25
 settled-requires : tie.Need-settled-requires
 settled-requires c κs = search needs
 
--- src/modes.rt:102:30
 enum-told-4 : tie.Need-enum-told-4
 enum-told-4 c = search needs
 
--- src/modes.rt:102:30
 settled-requires-2 : tie.Need-settled-requires-2
 settled-requires-2 c κs = search needs
 
--- src/modes.rt:103:27
 enum-told-5 : tie.Need-enum-told-5
 enum-told-5 c = search needs
 
--- src/modes.rt:103:27
 on-opening-requires : tie.Need-on-opening-requires
 on-opening-requires c κs = search needs
 
--- src/modes.rt:104:48
 enum-told-6 : tie.Need-enum-told-6
 enum-told-6 c = search needs
 
--- src/modes.rt:104:37
 when-requires : tie.Need-when-requires
 when-requires c κs = search needs
 
--- src/modes.rt:104:27
 behind-requires : tie.Need-behind-requires
 behind-requires c κs = search needs
 
--- src/modes.rt:105:35
 enum-told-7 : tie.Need-enum-told-7
 enum-told-7 c = search needs
 
--- src/modes.rt:105:25
 behind-requires-2 : tie.Need-behind-requires-2
 behind-requires-2 c κs = search needs
 
--- src/modes.rt:106:25
 enum-told-8 : tie.Need-enum-told-8
 enum-told-8 c = search needs
 
--- src/modes.rt:107:47
 enum-told-9 : tie.Need-enum-told-9
 enum-told-9 c = search needs
 
--- src/modes.rt:107:34
 unless-requires : tie.Need-unless-requires
 unless-requires c κs = search needs
 
--- src/modes.rt:107:24
 behind-requires-3 : tie.Need-behind-requires-3
 behind-requires-3 c κs = search needs
 
--- src/modes.rt:108:29
 enum-told-10 : tie.Need-enum-told-10
 enum-told-10 c = search needs
 
--- src/modes.rt:109:51
 enum-told-11 : tie.Need-enum-told-11
 enum-told-11 c = search needs
 
--- src/modes.rt:109:38
 unless-requires-2 : tie.Need-unless-requires-2
 unless-requires-2 c κs = search needs
 
--- src/modes.rt:109:28
 behind-requires-4 : tie.Need-behind-requires-4
 behind-requires-4 c κs = search needs
 
--- src/modes.rt:110:27
 enum-told-12 : tie.Need-enum-told-12
 enum-told-12 c = search needs
 
--- src/modes.rt:95:1
 returns : tie.Need-returns
 returns c = search needs
 
--- src/modes.rt:95:1
 returns-2 : tie.Need-returns-2
 returns-2 c = c .on-variable .ensures ∙ ap (afterFound (c .before .before .before .args .m) (c .before .before .before .args .deep)) (sym (c .before .enum-told2 .given .1))
 
--- src/modes.rt:95:1
 returns-3 : tie.Need-returns-3
 returns-3 c = search needs
 
--- src/modes.rt:95:1
 returns-4 : tie.Need-returns-4
 returns-4 c = search needs
 
--- src/modes.rt:95:1
 returns-5 : tie.Need-returns-5
 returns-5 c = search needs
 
--- src/modes.rt:95:1
 returns-6 : tie.Need-returns-6
 returns-6 c = c .behind .ensures ∙ ap (behind (c .before .before .before .before .args .m)) (c .before .when .ensures) ∙ ap (afterFound (c .before .before .before .before .args .m) (c .before .before .before .before .args .deep)) (sym (c .before .before .enum-told6 .given .1))
 
--- src/modes.rt:95:1
 returns-7 : tie.Need-returns-7
 returns-7 c = c .behind2 .ensures ∙ ap (afterFound (c .before .before .before .args .m) (c .before .before .before .args .deep)) (sym (c .before .enum-told7 .given .1))
 
--- src/modes.rt:95:1
 returns-8 : tie.Need-returns-8
 returns-8 c = search needs
 
--- src/modes.rt:95:1
 returns-9 : tie.Need-returns-9
 returns-9 c = c .behind3 .ensures ∙ ap (behind (c .before .before .before .before .args .m)) (c .before .unless .ensures) ∙ ap (afterFound (c .before .before .before .before .args .m) (c .before .before .before .before .args .deep)) (sym (c .before .before .enum-told9 .given .1))
 
--- src/modes.rt:95:1
 returns-10 : tie.Need-returns-10
 returns-10 c = search needs
 
--- src/modes.rt:95:1
 returns-11 : tie.Need-returns-11
 returns-11 c = c .behind4 .ensures ∙ ap (behind (c .before .before .before .before .args .m)) (c .before .unless2 .ensures) ∙ ap (afterFound (c .before .before .before .before .args .m) (c .before .before .before .before .args .deep)) (sym (c .before .before .enum-told11 .given .1))
 
--- src/modes.rt:95:1
 returns-12 : tie.Need-returns-12
 returns-12 c = search needs
 
