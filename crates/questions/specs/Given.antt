@@ -128,7 +128,7 @@ names-table g Predicate =
     three Predicate (entries-on Constant 0 (g Constant)) (entries-on Compound 0 (g Compound)) (entries-on Predicate 0 (g Predicate))
     ∙ ap₂ _++_ (names-other Predicate Constant 0 (g Constant) refl) (ap₂ _++_ (names-other Predicate Compound 0 (g Compound) refl) (names-own Predicate 0 (g Predicate)))
 
-lists-same : (g h : Given) → ((k : Sort) → g k ≡ h k) → list-of g ≡ list-of h
+pub lists-same : (g h : Given) → ((k : Sort) → g k ≡ h k) → list-of g ≡ list-of h
 lists-same g h e = ap₂ _++_ (ap (entries Constant 0) (e Constant)) (ap₂ _++_ (ap (entries Compound 0) (e Compound)) (ap (entries Predicate 0) (e Predicate)))
 
 module _ (s : List ℕ) (g : Given) (h : Gives s g) where

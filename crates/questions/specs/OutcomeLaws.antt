@@ -62,7 +62,7 @@ module _ (text book names query list′ : List ℕ) where
 
   -- What is computed, case by case
 
-  is-not-good : (good → ⊥) → Is (refusal (bookVerdict book .code) (bookVerdict book .place)) query list′
+  pub is-not-good : (good → ⊥) → Is (refusal (bookVerdict book .code) (bookVerdict book .place)) query list′
   unfolding outcome query-area list-area
   is-not-good n = let z = ne-eqb (bookVerdict book .code) 0 n in record { answer = rw z refl; query-is = rw (z, z) refl; list-is = rw (z, z) refl }
 
@@ -70,12 +70,12 @@ module _ (text book names query list′ : List ℕ) where
     zero-code : eqb (bookVerdict book .code) 0 ≡ true
     zero-code = eq-eqb (bookVerdict book .code) 0 h
 
-    is-no-list : gives names ≡ false → Is (refusal 45 0) query list′
+    pub is-no-list : gives names ≡ false → Is (refusal 45 0) query list′
     unfolding outcome query-area list-area
     is-no-list n = record { answer = rw (zero-code, n) refl; query-is = rw (zero-code, n) refl; list-is = rw (zero-code, n) refl }
 
     module _ (w : gives names ≡ true) where
-      is-bad-text : (c i : ℕ) → asking text ≡ refused c i → (c ≡ 0 → ⊥) → Is (refusal c i) query list′
+      pub is-bad-text : (c i : ℕ) → asking text ≡ refused c i → (c ≡ 0 → ⊥) → Is (refusal c i) query list′
       unfolding outcome query-area list-area
       is-bad-text c i e n =
           let z = ne-eqb c 0 n in
@@ -88,7 +88,7 @@ module _ (text book names query list′ : List ℕ) where
         abbrev K : ℕ
         K = suited text book G fs
 
-        is-two : (K ≡ length (goalUses (goal G fs)) → ⊥) → Is (refusal 17 (formula-at text K)) query list′
+        pub is-two : (K ≡ length (goalUses (goal G fs)) → ⊥) → Is (refusal 17 (formula-at text K)) query list′
         unfolding outcome query-area list-area answered
         is-two n =
             let z = ne-eqb K (length (goalUses (goal G fs))) n in
@@ -98,12 +98,12 @@ module _ (text book names query list′ : List ℕ) where
           kept-code : eqb K (length (goalUses (goal G fs))) ≡ true
           kept-code = eq-eqb K (length (goalUses (goal G fs))) k
 
-          is-no-room : room text book G fs (length query) (length list′) ≡ false → Is (refusal 43 0) query list′
+          pub is-no-room : room text book G fs (length query) (length list′) ≡ false → Is (refusal 43 0) query list′
           unfolding outcome query-area list-area answered
           is-no-room n =
               record { answer = rw (zero-code, w, e, kept-code, n) refl; query-is = rw (zero-code, w, e, kept-code, n) refl; list-is = rw (zero-code, w, e, kept-code, n) refl }
 
-          is-read : room text book G fs (length query) (length list′) ≡ true →
+          pub is-read : room text book G fs (length query) (length list′) ≡ true →
               Is (given-answer G fs) (filled (encodeGoal (goal G fs)) query) (filled (list-of (names-with G fs)) list′)
           unfolding outcome query-area list-area answered
           is-read n =
