@@ -1,5 +1,4 @@
 use Rattle.laying.proofs.Seeking.{nameable, known-stands, name-listed, name-own, name-words, name-room}
-use Rattle.laying.proofs.Seeking.{nameable}
 use native.Mathlib.Omega.{arith}
 use borrow.Author.Needs.{needs}
 use Rattle.laying.proofs.owned.number_of_name.Statement.{statement}
