@@ -1,4 +1,4 @@
-/* The office reads rules, prints the book that they are and a query, and what runs have left. The rules are those of examples/plant/rules. */
+/* The office reads rules and queries, prints the book that the rules are and the queries, and what runs have left. */
 #include <stdio.h>
 #include <string.h>
 
@@ -9,10 +9,8 @@ static const char rules[] = "supplies(P,C) :- feeds(P,V), opens(V,C).\n"
                             "upstream(X,Y) :- upstream(X,Z), pipe(Z,Y). % and so on\n";
 static uint8_t book[PITXARGOLE_BOOK], names[PITXARGOLE_TEXT];
 static uint64_t held, listed; /* how long they are */
-static const uint8_t supplies[] = {6, 0, 1, 4, 0, 0, 2, 1, 0, 0, 2, 0, 2};                                     /* supplies(P,c7) */
-static const uint8_t both[] = {6, 0, 2, 4, 0, 0, 2, 1, 0, 0, 1, 0, 1, 4, 0, 4, 2, 1, 0, 1, 1, 0, 2};           /* supplies(P,C), pipe(C,X) */
-static const uint8_t twice[] = {6, 0, 1, 4, 0, 3, 2, 1, 0, 0, 1, 0, 1};                                        /* upstream(X,Y) */
-static uint8_t goal[PITXARGOLE_AREA], answer[PITXARGOLE_AREA], text[PITXARGOLE_TEXT];
+static uint8_t query[PITXARGOLE_AREA], goal[PITXARGOLE_AREA], answer[PITXARGOLE_AREA], text[PITXARGOLE_TEXT];
+static uint8_t list[PITXARGOLE_TEXT]; /* the names, and those that the query brings */
 
 static void show(const char *what, uint64_t said) {
     unsigned code = pitxargole_code(said), rest = pitxargole_place_or_bytes(said);
@@ -34,13 +32,25 @@ static uint64_t image(const uint8_t *s) {
     return at;
 }
 
-static void run(uint32_t budget, const uint8_t *query, uint64_t length) {
-    show("a query", pitxargole_print_goal(book, held, query, length, names, listed, text, sizeof text));
+static uint64_t asking(const char *typed) {
+    uint64_t said = pitxargole_read_query((const uint8_t *)typed, strlen(typed), book, held, names, listed, query, sizeof query, list, sizeof list);
+    if (pitxargole_code(said))
+        printf("%s: refused with %u at place %u\n", typed, (unsigned)pitxargole_code(said), (unsigned)pitxargole_place_or_bytes(said));
+    else
+        printf("%s: an image of %u bytes, names of %u\n", typed, (unsigned)pitxargole_place_or_bytes(said), (unsigned)pitxargole_names_bytes(said));
+    return said;
+}
+
+static void run(uint32_t budget, const char *typed) {
+    uint64_t asked = asking(typed), length = pitxargole_place_or_bytes(asked), known = pitxargole_names_bytes(asked);
+    if (pitxargole_code(asked))
+        return;
+    show("the query", pitxargole_print_goal(book, held, query, length, list, known, text, sizeof text));
     uint64_t said = pitxargole_run(budget, book, held, query, length, goal, sizeof goal, answer, sizeof answer);
     printf("after %u steps, code %u, ", (unsigned)pitxargole_steps(said), (unsigned)pitxargole_code(said));
-    show("the goal", pitxargole_print_goal(book, held, goal, pitxargole_place_or_bytes(said), names, listed, text, sizeof text));
-    show("the answer, as a goal", pitxargole_print_goal(book, held, answer, image(answer), names, listed, text, sizeof text));
-    show("the answer", pitxargole_print_answer(book, held, answer, image(answer), names, listed, text, sizeof text));
+    show("the goal", pitxargole_print_goal(book, held, goal, pitxargole_place_or_bytes(said), list, known, text, sizeof text));
+    show("the answer, as a goal", pitxargole_print_goal(book, held, answer, image(answer), list, known, text, sizeof text));
+    show("the answer", pitxargole_print_answer(book, held, answer, image(answer), list, known, text, sizeof text));
 }
 
 static uint64_t reading(const char *what, const char *rules) {
@@ -64,8 +74,12 @@ int main(void) {
     show("without `pipe`", pitxargole_print_book(book, held, names, listed - 8, text, sizeof text));
     show("half a name", pitxargole_print_book(book, held, names, listed - 1, text, sizeof text));
     show("a small area", pitxargole_print_book(book, held, names, listed, text, 20));
-    run(10000, supplies, sizeof supplies);
-    run(10000, both, sizeof both);
-    run(1, twice, sizeof twice);
+    run(10000, "supplies(P,c7)");
+    run(10000, "supplies(P,C), pipe(C,X).");
+    run(1, "upstream(X,Y)");
+    run(10000, "supplies(pump_2,c8), cooled(c8) % the new one");
+    asking("supplies(P,c7)) .");
+    asking("supplies(P,c7), opens(c7)");
+    asking("supplies(P,c7). supplies(P,c8)");
     return 0;
 }

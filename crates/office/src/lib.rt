@@ -2,6 +2,8 @@
 use printer::print_answer;
 use printer::print_book;
 use printer::print_goal;
+use queries::read_query;
+use textnumbers::query_number;
 use textnumbers::read_number;
 use textnumbers::text_number;
 use texts::read_text;
@@ -9,7 +11,8 @@ ghost use mathlib.Core.Path.{_≡_};
 ghost use Rattle.printouts.specs.Outcome.{printAnswer, printArea, goalAnswer, goalArea};
 ghost use Rattle.printouts.specs.Answer.{foundAnswer, foundArea};
 ghost use Rattle.readouts.specs.Outcome.{readAnswer, readBook, readNames};
-ghost use Rattle.textnumbers.specs.Numbers.{textNumber, readNumber};
+ghost use Rattle.questions.specs.Outcome.{outcome, query-area, list-area};
+ghost use Rattle.textnumbers.specs.Numbers.{textNumber, readNumber, queryNumber};
 
 #[no_mangle]
 pub extern "C" fn pitxargole_print_book(book: &[u8], names: &[u8], area: &mut [u8]) -> u64
@@ -52,4 +55,19 @@ pub extern "C" fn pitxargole_read_text(text: &[u8], book: &mut [u8], names: &mut
     ensures names { λ _. ⌜ now (names .exit) ≡ readNames (now (text .entry)) (now (book .entry)) (now (names .entry)) ⌝ }
 {
     read_number(read_text(text, book, names))
+}
+
+#[no_mangle]
+pub extern "C" fn pitxargole_read_query(
+    text: &[u8],
+    book: &[u8],
+    names: &[u8],
+    query: &mut [u8],
+    list: &mut [u8],
+) -> u64
+    ensures said { λ n. ⌜ n ≡ queryNumber (outcome (now (text .entry)) (now (book .entry)) (now (names .entry)) (now (query .entry)) (now (list .entry))) ⌝ }
+    ensures query { λ _. ⌜ now (query .exit) ≡ query-area (now (text .entry)) (now (book .entry)) (now (names .entry)) (now (query .entry)) (now (list .entry)) ⌝ }
+    ensures list { λ _. ⌜ now (list .exit) ≡ list-area (now (text .entry)) (now (book .entry)) (now (names .entry)) (now (query .entry)) (now (list .entry)) ⌝ }
+{
+    query_number(read_query(text, book, names, query, list))
 }

@@ -2,5 +2,6 @@
 pub mod Numbers
 pub mod Figures
 pub mod ReadFigures
+pub mod QueryFigures
 pub mod Once
 pub mod RunAnswers

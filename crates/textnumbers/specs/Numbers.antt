@@ -1,10 +1,11 @@
 -- The numbers for C of what was printed and of what was read. Of printing: "outcome in the lowest eight bits; the next 24 bits hold the place" of a refusal, and the text's bytes otherwise; there are no steps. Of reading: the place of a refusal, and the book's bytes otherwise;
--- in the highest 32 bits the names' bytes.
+-- in the highest 32 bits the names' bytes. Of a query that is read it is the same, with the query's bytes in the place of the book's.
 use Prim.Native.Nat.{ℕ, _+_, _*_, _^_, _<_}
 use lib.Dec.{eqb}
 use Rattle.terms.specs.When.{_⇒_∣_}
 use Rattle.printouts.specs.declared.Printout.{Printout}
 use Rattle.readouts.specs.declared.ReadText.{ReadText}
+use Rattle.questions.specs.declared.ReadQuery.{ReadQuery}
 
 abbrev pub textField : Printout → ℕ
 textField p = eqb (p .code) 0 ⇒ p .bytes ∣ p .place
@@ -28,3 +29,9 @@ pub record ReadNarrow (r : ReadText) : Type 0 where
   pub code : r .code < 256
   pub place : r .place < 2 ^ 24
   pub book : r .book < 2 ^ 24
+
+abbrev pub asText : ReadQuery → ReadText
+asText r = record { code = r .code; place = r .place; book = r .query; names = r .names }
+
+abbrev pub queryNumber : ReadQuery → ℕ
+queryNumber r = readNumber (asText r)

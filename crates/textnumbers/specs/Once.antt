@@ -6,7 +6,8 @@ use Rattle.printouts.specs.declared.Printout.{Printout}
 use Rattle.printouts.specs.Outcome.{printAnswer, printArea, goalAnswer, goalArea}
 use Rattle.printouts.specs.Answer.{foundAnswer, foundArea}
 use Rattle.readouts.specs.Outcome.{readAnswer, readBook, readNames}
-use Rattle.textnumbers.specs.Numbers.{textNumber, readNumber}
+use Rattle.questions.specs.Outcome.{outcome, query-area, list-area}
+use Rattle.textnumbers.specs.Numbers.{textNumber, readNumber, queryNumber}
 
 -- a number and an area that are said
 abbrev Says : Printout → List ℕ → ℕ → List ℕ → Type 0
@@ -33,3 +34,10 @@ module _ (text books lists : List ℕ) where
 
   pub read-text-number-once : {n n′ : ℕ} {b b′ l l′ : List ℕ} → SaysRead n b l → SaysRead n′ b′ l′ → (n ≡ n′) × (b ≡ b′) × (l ≡ l′)
   read-text-number-once (p, q, s) (p′, q′, s′) = (p ∙ inv p′, q ∙ inv q′, s ∙ inv s′)
+
+module _ (text book names query list : List ℕ) where
+  abbrev SaysQuery : ℕ → List ℕ → List ℕ → Type 0
+  SaysQuery n q l = (n ≡ queryNumber (outcome text book names query list)) × (q ≡ query-area text book names query list) × (l ≡ list-area text book names query list)
+
+  pub read-query-number-once : {n n′ : ℕ} {q q′ l l′ : List ℕ} → SaysQuery n q l → SaysQuery n′ q′ l′ → (n ≡ n′) × (q ≡ q′) × (l ≡ l′)
+  read-query-number-once (a, b, c) (a′, b′, c′) = (a ∙ inv a′, b ∙ inv b′, c ∙ inv c′)
