@@ -28,7 +28,7 @@ pub fn book_printed(text: Printed) -> Result<Printed, String> {
 
 /// A query can be read by the list.
 fn asks(list: &[u8]) -> bool {
-    Names::read(list).is_some_and(|names| names.has_room())
+    Names::read(list).is_some_and(|names| names.in_turn())
 }
 
 /// By the names that it was printed with, a goal has its own numbers.
@@ -47,4 +47,11 @@ pub fn rules_read(read: Read) -> Result<Read, String> {
     let again = |read: &Texts| print::book_text(&read.image, &read.names);
     let same = |read: &Texts| again(read).is_ok_and(|text| too_long(&text) || text::rules(&text).as_ref() == Ok(read));
     held(read, same, "a book that was read")
+}
+
+/// By the names that it has, which are the list's and its own.
+pub fn query_read(book: &[u8], read: Read) -> Result<Read, String> {
+    let again = |read: &Texts| print::goal_text(book, &read.image, &read.names);
+    let same = |read: &Texts| again(read).is_ok_and(|text| too_long(&text) || text::query(&text, book, &read.names).as_ref() == Ok(read));
+    held(read, same, "a query that was read")
 }

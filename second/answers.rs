@@ -7,7 +7,7 @@ use crate::period;
 use crate::print;
 use crate::read::{self, Profile, Refusal};
 use crate::scan;
-use crate::text;
+use crate::text::{self, Texts};
 
 /// The sum that `try_entries` makes of bytes.
 pub fn sum(bytes: &[u8]) -> u64 {
@@ -82,14 +82,20 @@ fn printed(entry: Entry, case: &Case) -> Result<String, String> {
     Ok(format!("{numbers} {}", sum(&area)))
 }
 
-/// Code, place, and the bytes of the book that is read and of its names, and what the two areas hold then.
-fn read(case: &Case) -> Result<String, String> {
+/// Code, place, and the bytes of what is read and of its names, and what the two areas hold then.
+fn read(case: &Case, said: scan::Read<Texts>) -> Result<String, String> {
     let (mut area, mut names) = (case.area.bytes(), case.answer.bytes());
-    let numbers = match text::laid(again::rules_read(text::rules(&case.book))?, &mut area, &mut names) {
+    let numbers = match text::laid(said, &mut area, &mut names) {
         Ok((bytes, of_names)) => format!("0 0 {bytes} {of_names}"),
         Err(scan::Refusal(code, place)) => format!("{code} {place} 0 0"),
     };
     Ok(format!("{numbers} {} {}", sum(&area), sum(&names)))
+}
+
+/// The same of a query, by its book and the list of names.
+fn asked(case: &Case) -> Result<String, String> {
+    let (text, list) = case.with_list();
+    read(case, again::query_read(&case.book, text::query(text, &case.book, list))?)
 }
 
 /// The numbers of an entry that is lent an area, and what the area holds then.
@@ -128,7 +134,8 @@ pub fn line(item: &Item) -> Result<String, String> {
         Entry::FlatBookForC => Ok(flat::number(&item.case.book).to_string()),
         entry @ (Entry::Pick | Entry::PickForC) => Ok(picked(entry, pick(&item.case.book, &item.case.query))),
         entry @ (Entry::PrintBook | Entry::PrintGoal | Entry::PrintAnswer) => printed(entry, &item.case),
-        Entry::ReadText => read(&item.case),
+        Entry::ReadText => read(&item.case, again::rules_read(text::rules(&item.case.book))?),
+        Entry::ReadQuery => asked(&item.case),
         entry @ (Entry::Run | Entry::RunForC | Entry::FlatRun | Entry::FlatRunForC) => of_run(entry, &item.case),
         entry => Ok(lent(entry, &item.case)),
     }

@@ -71,13 +71,14 @@ pub enum Entry {
     PrintGoal,
     PrintAnswer,
     ReadText,
+    ReadQuery,
 }
 
 use Entry::*;
 pub const PLAIN: [Entry; 9] = [CheckBook, CheckQuery, Step, Run, RunForC, Pick, Apply, PickForC, ApplyForC];
 pub const FLAT: [Entry; 8] =
     [CheckFlatBook, CheckFlatQuery, FlatStep, FlatRun, FlatBookForC, FlatQueryForC, FlatStepForC, FlatRunForC];
-pub const TEXTS: [Entry; 4] = [PrintBook, PrintGoal, PrintAnswer, ReadText];
+pub const TEXTS: [Entry; 5] = [PrintBook, PrintGoal, PrintAnswer, ReadText, ReadQuery];
 
 pub fn entries() -> impl Iterator<Item = Entry> {
     PLAIN.into_iter().chain(FLAT).chain(TEXTS)
@@ -87,7 +88,7 @@ impl Entry {
     /// How many areas it is lent: a run has an answer area behind its goal area.
     pub fn areas(self) -> usize {
         match self {
-            Run | RunForC | FlatRun | FlatRunForC | ReadText => 2,
+            Run | RunForC | FlatRun | FlatRunForC | ReadText | ReadQuery => 2,
             Step | Apply | ApplyForC | FlatStep | FlatStepForC | PrintBook | PrintGoal | PrintAnswer => 1,
             _ => 0,
         }
@@ -97,6 +98,7 @@ impl Entry {
 /// A check of a book has no use for the query, nor for number and areas; that of a query and a pick have none for number and areas; the others likewise.
 /// Where a book is printed, its list of names stands in the query's place; where a goal or an answer is, the goal
 /// and then the list, and the number is the goal's length. A text to be read as rules stands in the book's place, and the areas are for the book and for its names.
+/// A text to be read as a query stands where a goal to be printed does, and the areas are for its image and for the names.
 pub struct Item {
     pub entry: Entry,
     pub case: Case,

@@ -72,9 +72,17 @@ impl Names {
         next
     }
 
-    /// Each new name of a query, 4,096 of a sort at most, has a number of two bytes.
-    pub fn has_room(&self) -> bool {
-        self.names.keys().all(|(_, number)| *number < 61439)
+    /// As the reader of rules writes it: numbers from 0 with none left out, and at most 61,439 of a sort, so that each new name of a query, 4,096 of a sort at most, has a
+    /// number of two bytes.
+    pub fn in_turn(&self) -> bool {
+        [CONSTANT, COMPOUND, PREDICATE].into_iter().all(|kind| {
+            let numbers = self.names.range((kind, 0)..=(kind, u16::MAX)).map(|((_, number), _)| *number as usize);
+            numbers.enumerate().all(|(at, number)| number == at && number < 61439)
+        })
+    }
+
+    pub fn entries(self) -> Vec<(Symbol, Vec<u8>)> {
+        self.names.into_iter().collect()
     }
 
     pub fn list(&self) -> Vec<u8> {

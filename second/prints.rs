@@ -4,7 +4,7 @@ use crate::dice::Dice;
 use crate::entries::run;
 use crate::image;
 use crate::item::{Area, Case, Entry, Item};
-use crate::namelist::{COMPOUND, CONSTANT, PREDICATE, Symbol, written};
+use crate::namelist::{COMPOUND, CONSTANT, Names, PREDICATE, Symbol, written};
 use crate::print;
 use crate::read::{self, Profile};
 use crate::tree::{Clause, Formula, Term, Tree};
@@ -101,16 +101,29 @@ fn list(book: &[u8], goal: &[u8], dice: &mut Dice) -> Vec<u8> {
     if dice.once_in(3) {
         spoilt(&mut entries, dice);
     }
-    let mut bytes = written(entries.iter().map(|(s, n)| (s, n)));
-    if dice.once_in(8) {
-        let place = dice.below(bytes.len() as u32 + 1) as usize;
-        match dice.below(3) {
-            0 => bytes.truncate(place),
-            1 => bytes.insert(place, dice.below(128) as u8),
-            _ => bytes.iter_mut().skip(place).take(1).for_each(|b| *b = b.wrapping_add(dice.from(1, 255) as u8)),
-        }
+    let bytes = written(entries.iter().map(|(s, n)| (s, n)));
+    if dice.once_in(8) { damaged(bytes, dice) } else { bytes }
+}
+
+/// A byte wrong, too many, or all that would follow missing.
+fn damaged(mut bytes: Vec<u8>, dice: &mut Dice) -> Vec<u8> {
+    let place = dice.below(bytes.len() as u32 + 1) as usize;
+    match dice.below(3) {
+        0 => bytes.truncate(place),
+        1 => bytes.insert(place, dice.below(128) as u8),
+        _ => bytes.iter_mut().skip(place).take(1).for_each(|b| *b = b.wrapping_add(dice.from(1, 255) as u8)),
     }
     bytes
+}
+
+/// A list with one thing wrong, an entry or a byte, or not quite.
+pub fn spoilt_list(list: &[u8], dice: &mut Dice) -> Vec<u8> {
+    if dice.once_in(2) {
+        return damaged(list.to_vec(), dice);
+    }
+    let mut entries = Names::read(list).map_or(Vec::new(), Names::entries);
+    spoilt(&mut entries, dice);
+    written(entries.iter().map(|(s, n)| (s, n)))
 }
 
 /// The longest area that is tried.

@@ -1,8 +1,10 @@
 // Rules and queries as text with what is read of them, worked out by hand, from lists/texts and lists/queries.
 use crate::dice::Dice;
 use crate::item::{Area, Case, Entry, Item};
+use crate::namelist::{CONSTANT, written};
 use crate::print;
 use crate::printed::entries;
+use crate::prints::name;
 use crate::scan::Refusal;
 use crate::table;
 use crate::text::{self, Texts};
@@ -80,7 +82,18 @@ pub fn all_wrong() -> Vec<String> {
         let same = result == row.result && names == row.names;
         (!same).then(|| format!("{}: {}, and not {}", text(&row.text), text(&result), text(&row.result)))
     };
-    rows().into_iter().filter_map(wrong).collect()
+    rows().into_iter().filter_map(wrong).chain(last_number()).collect()
+}
+
+/// With 61,439 constants in a list a query's first new one has the number 61,439, and with one more there is no list.
+fn last_number() -> Option<String> {
+    let list = |count: u32| {
+        let entries: Vec<_> = (0..count).map(|n| ((CONSTANT, n as u16), name(n, 1))).collect();
+        written(entries.iter().map(|(symbol, name)| (symbol, name)))
+    };
+    let taken = text::query(b"e(new_one)", &[7], &list(61439)).is_ok_and(|read| read.image.ends_with(&[2, 0xef, 0xff]));
+    let refused = text::query(b"e(new_one)", &[7], &list(61440)) == Err(Refusal(45, 0));
+    (!taken || !refused).then(|| "the last numbers of a list".to_string())
 }
 
 /// A text for the entry that reads rules.
@@ -88,14 +101,23 @@ pub fn item(text: &[u8], [area, answer]: [Area; 2]) -> Item {
     Item { entry: Entry::ReadText, case: Case { book: text.to_vec(), query: Vec::new(), number: 0, area, answer } }
 }
 
-/// Each row of rules with areas as long as what is read; and with one of them a byte shorter.
+/// A text for the entry that reads a query: its length stands in the place of a number, and the list behind it.
+pub fn query_item(text: &[u8], book: &[u8], list: &[u8], [area, answer]: [Area; 2]) -> Item {
+    let case = Case { book: book.to_vec(), query: [text, list].concat(), number: text.len() as u32, area, answer };
+    Item { entry: Entry::ReadQuery, case }
+}
+
+/// Each row with areas as long as what is read; and with one of them a byte shorter.
 pub fn items(dice: &mut Dice) -> Vec<Item> {
     let mut items = Vec::new();
-    for row in rows().iter().filter(|row| row.to.is_none()) {
-        let (book, names) = read(row).map_or((20, 20), |read| (read.image.len(), read.names.len()));
-        for lengths in [[book, names], [book - 1, names], [book, names.saturating_sub(1)]] {
+    for row in rows().iter() {
+        let (image, names) = read(row).map_or((20, 20), |read| (read.image.len(), read.names.len()));
+        for lengths in [[image, names], [image - 1, names], [image, names.saturating_sub(1)]] {
             let areas = lengths.map(|length| Area { length, ..Area::usual(dice) });
-            items.push(item(&row.text, areas));
+            items.push(match &row.to {
+                Some((book, list)) => query_item(&row.text, book, list, areas),
+                None => item(&row.text, areas),
+            });
         }
     }
     items

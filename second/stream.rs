@@ -56,7 +56,7 @@ fn at_flat_entries(cases: Vec<Case>, dice: &mut Dice) -> Vec<Item> {
 }
 
 /// Cut at every byte, with a byte more, and with each byte changed to the kinds and the limits.
-fn at_every_byte(bytes: &[u8]) -> Vec<Vec<u8>> {
+pub fn at_every_byte(bytes: &[u8]) -> Vec<Vec<u8>> {
     let mut all: Vec<Vec<u8>> = (0..bytes.len()).map(|n| bytes[..n].to_vec()).collect();
     for place in 0..=bytes.len() {
         for byte in [0, 1, 2, 3, 4, 5, 6, 7, 8, 9, 17, 64, 255] {
@@ -166,7 +166,7 @@ fn random_items(lines: &[Line], dice: &mut Dice) -> Vec<Item> {
         2 => in_two(&case, dice),
         3..5 => vec![Item { entry: FLAT[dice.below(8) as usize], case: flat::made(case, dice) }],
         5..7 => vec![prints::made(case, dice)],
-        7..9 => vec![texts::made(dice)],
+        7..9 => vec![if dice.once_in(2) { texts::made(dice) } else { texts::asked(dice) }],
         _ => vec![Item { entry: random_entry(dice), case }],
     }
 }

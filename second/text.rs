@@ -215,7 +215,7 @@ pub fn rules(bytes: &[u8]) -> Read<Texts> {
 /// A query to a good book, by its list of names: "new names numbered after it".
 pub fn query(bytes: &[u8], book: &[u8], list: &[u8]) -> Read<Texts> {
     let clauses = read::book(Profile::Plain, book).map_err(|r| Refusal(r.code, r.place as usize))?;
-    let names = Names::read(list).filter(Names::has_room).ok_or(Refusal(45, 0))?;
+    let names = Names::read(list).filter(Names::in_turn).ok_or(Refusal(45, 0))?;
     not_too_long(bytes)?;
     let mut text = Text::new(bytes, IN_QUERY, names, read::used(&clauses));
     let goal = text.query()?;

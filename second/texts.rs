@@ -2,8 +2,9 @@
 use crate::dice::Dice;
 use crate::item::{Area, Item};
 use crate::prints::name;
-use crate::readings::item;
-use crate::text;
+use crate::prints::spoilt_list;
+use crate::readings::{item, query_item};
+use crate::text::{self, Texts};
 
 struct Pen<'a> {
     out: Vec<u8>,
@@ -107,12 +108,20 @@ fn pen(dice: &mut Dice) -> Pen<'_> {
     Pen { out: Vec::new(), dice, blanks, names, longest }
 }
 
-fn rules(dice: &mut Dice) -> Vec<u8> {
-    let clauses = dice.below(7);
+/// Rules, and a query that has about the same names.
+fn rules_and_query(dice: &mut Dice) -> (Vec<u8>, Vec<u8>) {
+    let (clauses, formulas, stops) = (dice.below(7), dice.below(6), dice.once_in(3));
     let mut pen = pen(dice);
     (0..clauses).for_each(|_| pen.clause());
     pen.gap();
-    pen.out
+    let rules = std::mem::take(&mut pen.out);
+    pen.formulas(formulas);
+    if stops {
+        pen.token(b".");
+        pen.one_of(&BLANKS);
+    }
+    pen.gap();
+    (rules, pen.out)
 }
 
 /// Bytes that mean something in a text, and some that do not.
@@ -147,7 +156,26 @@ pub fn rules_item(text: &[u8], dice: &mut Dice) -> Item {
 
 /// Rules, damaged now and then.
 pub fn made(dice: &mut Dice) -> Item {
-    let mut text = rules(dice);
+    let (mut text, _) = rules_and_query(dice);
     (0..dice.below(3)).for_each(|_| damage(&mut text, dice));
     rules_item(&text, dice)
+}
+
+pub fn asked_item(text: &[u8], book: &[u8], list: &[u8], dice: &mut Dice) -> Item {
+    let lengths = text::query(text, book, list).map_or([30, 30], |read| [read.image.len(), read.names.len()]);
+    query_item(text, book, list, lengths.map(|length| area(length, dice)))
+}
+
+/// A query to rules that are read, or to the empty book; its text, the book or the list damaged now and then.
+pub fn asked(dice: &mut Dice) -> Item {
+    let (rules, mut query) = rules_and_query(dice);
+    let read = text::rules(&rules).unwrap_or(Texts { image: vec![7], names: Vec::new() });
+    let Texts { image: mut book, names: mut list } = read;
+    match dice.below(12) {
+        0..4 => (0..dice.from(1, 2)).for_each(|_| damage(&mut query, dice)),
+        4..6 => list = spoilt_list(&list, dice),
+        6 => drop(book.pop()),
+        _ => {}
+    }
+    asked_item(&query, &book, &list, dice)
 }

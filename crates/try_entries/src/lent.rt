@@ -2,7 +2,8 @@
 // which a check, a single step and a pick have no use; the goal area's length (4 bytes), its first byte and what each byte has more than the one before it, modulo
 // 256 (1 byte each); the same of the answer area, of which only a run has use; the book's length (4 bytes), the book, and the query. Where a book is printed, the list
 // of names stands in the query's place; where a goal or an answer is, that and behind it the list, and the goal's length in the place of the budget.
-// A text to be read as rules stands in the book's place, and the areas are for the book and its names.
+// A text to be read as rules stands in the book's place, and the areas are for the book and its names; one to be read as a query stands where a goal to be printed does, and the areas are for its image and
+// the names.
 use crate::entries;
 use crate::flat;
 use crate::number;
@@ -55,6 +56,14 @@ fn with_names(entry: u8, book: &[u8], length: usize, both: &[u8], area: &mut [u8
     named(entry, book, &both[0..n], &both[n..], area)
 }
 
+// A query's text, and the list behind it.
+fn asked(book: &[u8], length: usize, both: &[u8], area: &mut [u8], answer: &mut [u8]) -> bool
+    ensures { λ r. ⌜ r ≡ true ⌝ }
+{
+    let n = least(length, both.len());
+    reading::query(&both[0..n], book, &both[n..], area, answer)
+}
+
 fn call(
     entry: u8,
     number: u32,
@@ -84,6 +93,7 @@ fn call(
         17 => flat::run_for_c(book, query, number, area, answer),
         18 => print::book(book, query, area),
         21 => reading::rules(book, area, answer),
+        22 => asked(book, number as usize, query, area, answer),
         _ => with_names(entry, book, number as usize, query, area),
     }
 }
