@@ -52,6 +52,8 @@ pub fn rules_read(read: Read) -> Result<Read, String> {
 /// By the names that it has, which are the list's and its own.
 pub fn query_read(book: &[u8], read: Read) -> Result<Read, String> {
     let again = |read: &Texts| print::goal_text(book, &read.image, &read.names);
-    let same = |read: &Texts| again(read).is_ok_and(|text| too_long(&text) || text::query(&text, book, &read.names).as_ref() == Ok(read));
+    let same = |read: &Texts| {
+        again(read).is_ok_and(|text| too_long(&text) || text::query(&text, book, &read.names).as_ref() == Ok(read))
+    };
     held(read, same, "a query that was read")
 }

@@ -9,6 +9,13 @@ pub(crate) fn names_area() -> [u8; 131072]
     [0; 131072]
 }
 
+// A query brings at most 4,096 names more, and as many bytes of them as its text has, at most 65,536.
+pub(crate) fn list_area() -> [u8; 212992]
+    ensures { λ r. ⌜ 212992 ≡ length r ⌝ }
+{
+    [0; 212992]
+}
+
 // A byte more than the longest text, so that a longer one is seen to be.
 pub(crate) fn text_area() -> [u8; 65537]
     ensures { λ r. ⌜ 65537 ≡ length r ⌝ }

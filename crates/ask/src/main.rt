@@ -2,7 +2,6 @@
 // read, run and printed by them.
 mod answers;
 mod areas;
-mod behind;
 mod circle;
 mod goals;
 mod nearest;
@@ -16,80 +15,31 @@ use crate::answers::Wanted;
 use crate::answers::answer;
 use crate::areas::book_area;
 use crate::areas::goal_area;
+use crate::areas::list_area;
 use crate::areas::names_area;
 use crate::areas::text_area;
-use crate::behind::BETWEEN;
-use crate::behind::image;
-use crate::behind::join;
 use crate::out::say;
-use crate::refusal::of_query;
 use crate::refusal::refused;
-use crate::text::one_more;
 use crate::text::part;
-use crate::text::smaller;
-use crate::text::stop_at;
-use crate::text::token_at;
 use crate::words::Words;
 use libc::STDIN_FILENO;
 use printer::print_book;
+use queries::read_query;
 use texts::read_text;
 
-// What reading a query answers: as for a text, with the bytes of the goal's image.
-struct Reading {
-    code: u8,
-    place: usize,
-    query: usize,
-    names: usize,
-}
-
-// The query behind the rules, whose book is a beginning of the book that is read then, but for its end.
-fn read_behind(
-    text: &[u8],
-    typed: &[u8],
-    from: usize,
-    query: &mut [u8],
-    list: &mut [u8],
-) -> Reading {
-    let mut joined = text_area();
-    let mut book = book_area();
-    let n = join(&mut joined, text, typed);
-    let r = read_text(part(&joined, 0, n), &mut book, list);
-    let length = image(part(&book, 0, r.book as usize), from, query);
-    Reading {
-        code: r.code,
-        place: r.place as usize,
-        query: length,
-        names: r.names as usize,
-    }
-}
-
-fn minus(a: usize, b: usize) -> usize {
-    if b <= a {
-        return a - b;
-    }
-    0
-}
-
-fn ask(typed: &[u8], text: &[u8], book: &[u8], names: &[u8], rules: &[u8], w: Wanted) {
-    let stop = stop_at(typed);
-    let second = token_at(typed, one_more(stop, typed));
-    if second < typed.len() {
-        refused(false, typed, 41, second);
-        return;
-    }
+fn ask(typed: &[u8], book: &[u8], names: &[u8], rules: &[u8], w: Wanted) {
     let mut query = goal_area();
-    let mut list = names_area();
-    let r = read_behind(text, typed, minus(book.len(), 1), &mut query, &mut list);
+    let mut list = list_area();
+    let r = read_query(typed, book, names, &mut query, &mut list);
     if r.code != 0 {
-        let place = minus(r.place, text.len() % 65538 + BETWEEN);
-        refused(false, typed, of_query(r.code), smaller(place, typed.len()));
+        refused(false, typed, r.code, r.place as usize);
         return;
     }
     answer(
         typed,
         book,
-        part(&query, 0, r.query),
-        part(&list, 0, r.names),
+        part(&query, 0, r.query as usize),
+        part(&list, 0, r.names as usize),
         names,
         rules,
         w,
@@ -134,41 +84,41 @@ fn prompt() {
 }
 
 // A line asked, if there is anything on it; and whether another may follow.
-fn ask_line(text: &[u8], book: &[u8], names: &[u8], rules: &[u8], w: Wanted) -> bool {
+fn ask_line(book: &[u8], names: &[u8], rules: &[u8], w: Wanted) -> bool {
     let mut line = io::large_buffer();
     prompt();
     let read = read_line(&mut line);
     if 0 < read.length {
-        ask(part(&line, 0, read.length), text, book, names, rules, w);
+        ask(part(&line, 0, read.length), book, names, rules, w);
     }
     !read.last
 }
 
-fn ask_lines(text: &[u8], book: &[u8], names: &[u8], rules: &[u8], w: Wanted) {
+fn ask_lines(book: &[u8], names: &[u8], rules: &[u8], w: Wanted) {
     for turn in 0..4294967295u32 {
-        if !ask_line(text, book, names, rules, w) {
+        if !ask_line(book, names, rules, w) {
             return;
         }
     }
 }
 
-fn ask_word(at: usize, text: &[u8], book: &[u8], names: &[u8], rules: &[u8], w: Wanted) {
+fn ask_word(at: usize, book: &[u8], names: &[u8], rules: &[u8], w: Wanted) {
     let mut word = names_area();
     let n = os::arg(at, &mut word);
-    ask(part(&word, 0, n), text, book, names, rules, w);
+    ask(part(&word, 0, n), book, names, rules, w);
 }
 
 // The rules are printed once, for the clauses that are shown.
-fn with_book(text: &[u8], book: &[u8], names: &[u8], w: Words) {
+fn with_book(book: &[u8], names: &[u8], w: Words) {
     let mut printed = io::large_buffer();
     let p = print_book(book, names, &mut printed);
     let rules = part(&printed, 0, p.bytes);
     let wanted = w.wanted;
     if w.query == 0 {
-        ask_lines(text, book, names, rules, wanted);
+        ask_lines(book, names, rules, wanted);
         return;
     }
-    ask_word(w.query, text, book, names, rules, wanted);
+    ask_word(w.query, book, names, rules, wanted);
 }
 
 fn with_rules(typed: &[u8], w: Words) {
@@ -180,7 +130,6 @@ fn with_rules(typed: &[u8], w: Words) {
         return;
     }
     with_book(
-        typed,
         part(&book, 0, r.book as usize),
         part(&names, 0, r.names as usize),
         w,

@@ -96,6 +96,10 @@ fn expected(rules: bool, text: &[u8], place: usize) {
         say(b"expected a name or a variable\n");
         return;
     }
+    if !rules && last == b'.' {
+        say(b"expected nothing behind the full stop\n");
+        return;
+    }
     say(b"expected a name that begins with a small letter\n");
 }
 
@@ -109,11 +113,9 @@ fn reason(code: u8) {
         ),
         7 => say(b"this predicate was used before with another number of arguments\n"),
         14 => say(
-            b"one too many: a formula or term has at most 8 arguments, a query here at most 16 formulas\n",
+            b"one too many: a formula or term has at most 8 arguments, a query at most 512 formulas\n",
         ),
-        15 => say(
-            b"too large: a query here has at most 256 names and variables, 64 of them different variables\n",
-        ),
+        15 => say(b"too large: a query has at most 4,096 names and variables\n"),
         17 => say(
             b"this predicate has another number of arguments in the rules, or before in the query\n",
         ),
@@ -121,16 +123,6 @@ fn reason(code: u8) {
         41 => say(b"unexpected here\n"),
         42 => say(b"a name has at most 32 bytes\n"),
         _ => say(b"no room for what was read\n"),
-    }
-}
-
-// A query is read as a part of a text: the codes that document 01 has for a query.
-pub(crate) fn of_query(code: u8) -> u8 {
-    match code {
-        4 => 14,
-        5 => 15,
-        7 => 17,
-        _ => code,
     }
 }
 

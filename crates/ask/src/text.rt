@@ -200,36 +200,6 @@ pub(crate) fn past(text: &[u8], at: usize, b: u8) -> usize {
     at + 1
 }
 
-// The first full stop, or the text's end.
-pub(crate) fn stop_at(text: &[u8]) -> usize {
-    let mut at = 0;
-    let mut turns = text.len();
-    while 0 < turns {
-        let b = byte(text, at);
-        if b == b'.' {
-            return at;
-        }
-        at = past(text, at, b);
-        turns -= 1;
-    }
-    at
-}
-
-// The first token from a place on, or the text's end.
-pub(crate) fn token_at(text: &[u8], from: usize) -> usize {
-    let mut at = from;
-    let mut turns = text.len();
-    while 0 < turns {
-        let b = byte(text, at);
-        if b' ' < b && b != b'%' {
-            return at;
-        }
-        at = past(text, at, b);
-        turns -= 1;
-    }
-    at
-}
-
 pub(crate) fn one_more(at: usize, text: &[u8]) -> usize {
     if at < text.len() {
         return at + 1;

@@ -4,10 +4,10 @@ use Rattle.ask.proofs.ask_lines.Statement.{statement}
 use Rattle.ask.proofs.ask_lines.Tie as tie
 
 abbrev Inv-loop : tie.InvT-loop
-Inv-loop text book names rules w turn₀ turn = Unit {0}
+Inv-loop book names rules w turn₀ turn = Unit {0}
 
 abbrev μ-loop : tie.MeasureT-loop
-μ-loop text book names rules w turn₀ turn = 4294967295 - turn
+μ-loop book names rules w turn₀ turn = 4294967295 - turn
 
 pub ask-lines-spec : {M : Type 1} → statement M
 ask-lines-spec =
