@@ -1,90 +1,23 @@
 -- Records one by one.
-use Prim.Native.Nat.{ℕ, suc, _+_, _-_, _≤_, _<_}
+use Prim.Native.Nat.{ℕ, _+_, _-_, _≤_, _<_}
 use mathlib.Core.Path.{_≡_, refl, sym as inv, ap, ap₂, _∙_, subst}
 use mathlib.Core.Bool.{Bool, true, false, not, true≢false}
-use mathlib.Core.List.{List, [], _∷_, _++_, append-nil}
+use mathlib.Core.List.{List, [], _∷_}
 use native.Mathlib.Omega.{arith}
 use borrow.Author.Tests.{not-true, not-false}
 use lib.ListN.{length, getD, drop, length-drop, length-append}
 use lib.Dec.{eqb}
 use Rattle.terms.specs.When.{_⇒_∣_}
-use Rattle.search.specs.Next as Next
-use Rattle.words.specs.Flat.{flat}
-use Rattle.format.specs.declared.State.{State}
-use Rattle.format.specs.declared.Form.{Form}
-use Rattle.format.specs.declared.Form.the-variants.{Book, Query}
 use Rattle.format.specs.declared.Record.{Record}
 use Rattle.format.specs.declared.Record.the-variants.{Variable, Constant, Compound, Formula, Clause, Goal, End}
-use Rattle.format.specs.Format.{Bytes, recordKind, encodeRecord, encode, nodeRecords, goalRecords, bookRecords, encodeBook, GoodGoal}
-use Rattle.format.specs.Reading.{bodyLength, recordAt, inRange, after, start, bookVerdict}
-use Rattle.format.specs.Decode.{bookOf}
-use Rattle.format.specs.Faulty.{Complete}
-use Rattle.format.specs.Arities.{Use, recordUses, usesOf, bookUses, goalUses, OneArity, Memory, nothing-met, meet, meets, recall, keeps, recalled}
-use Rattle.format.specs.ArityLaws.{book-uses, goal-uses}
+use Rattle.format.specs.Format.{recordKind, encodeRecord, encode}
+use Rattle.format.specs.Reading.{bodyLength, recordAt, inRange}
+use Rattle.format.specs.Arities.{usesOf, Memory, meets, recall, keeps, recalled}
 use Rattle.format.proofs.Encoded.{encoded}
-use Rattle.format.proofs.Beginnings.{Reads, beginning-reads}
-use Rattle.format.proofs.GoodSizes.{clauses-formed}
-use Rattle.format.proofs.Decoding.{bookOf-good, bookOf-one}
 use Rattle.scanning.specs.Remembers.{Remembers}
 use Rattle.questions.specs.Outcome.{kept}
-use Rattle.questions.specs.Kept.{kept-all}
-use Rattle.clashing.specs.Meeting.{AllRange, Meets-all, Met, Nodes, Kept}
-
--- A record
-
-abbrev counted : ℕ → ℕ → ℕ
-counted kind k = eqb kind 4 ⇒ k + 1 ∣ k
-
-kept-step : (m : Memory) (k : ℕ) (r : Record) (us : List Use) → k + kept m (recordUses r ++ us) ≡ (keeps m r ⇒ counted (recordKind r) k + kept (meets m r) us ∣ k)
-unfolding keeps
-kept-step m k (Variable v) us = refl
-kept-step m k (Constant c) us = refl
-kept-step m k (Compound f n) us = refl
-kept-step m k (Formula p n) us = by (keeps m (Formula p n)) refl
-  where
-    by : (b : Bool) → keeps m (Formula p n) ≡ b → k + kept m (recordUses (Formula p n) ++ us) ≡ (keeps m (Formula p n) ⇒ k + 1 + kept (meet m p n) us ∣ k)
-    by true e = rw e (omega arith)
-    by false e = rw e (omega arith)
-kept-step m k (Clause n) us = refl
-kept-step m k (Goal n) us = refl
-kept-step m k End us = refl
-
-length-step : (k : ℕ) (r : Record) (us : List Use) → k + length (recordUses r ++ us) ≡ counted (recordKind r) k + length us
-length-step k (Variable v) us = refl
-length-step k (Constant c) us = refl
-length-step k (Compound f n) us = refl
-length-step k (Formula p n) us = omega arith
-length-step k (Clause n) us = refl
-length-step k (Goal n) us = refl
-length-step k End us = refl
-
-recall-step : (m : Memory) (r : Record) (us : List Use) → recall m (recordUses r ++ us) ≡ recall (meets m r) us
-recall-step m (Variable v) us = refl
-recall-step m (Constant c) us = refl
-recall-step m (Compound f n) us = refl
-recall-step m (Formula p n) us = refl
-recall-step m (Clause n) us = refl
-recall-step m (Goal n) us = refl
-recall-step m End us = refl
-
-abbrev Plain : Record → Type 0
-Plain (Variable v) = Unit {0}
-Plain (Constant c) = Unit {0}
-Plain (Compound f n) = Unit {0}
-Plain (Formula p n) = ⊥
-Plain (Clause n) = Unit {0}
-Plain (Goal n) = Unit {0}
-Plain End = Unit {0}
-
-plain-kept : (m : Memory) (r : Record) → Plain r → keeps m r ≡ true
-unfolding keeps
-plain-kept m (Variable v) h = refl
-plain-kept m (Constant c) h = refl
-plain-kept m (Compound f n) h = refl
-plain-kept m (Formula p n) h = absurd h
-plain-kept m (Clause n) h = refl
-plain-kept m (Goal n) h = refl
-plain-kept m End h = refl
+use Rattle.clashing.specs.Meeting.{AllRange, Meets-all, Met}
+use Rattle.clashing.proofs.Single.{counted, kept-step, length-step, recall-step, plain-kept}
 
 -- All records
 

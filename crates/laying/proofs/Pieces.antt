@@ -29,7 +29,7 @@ use Rattle.laying.specs.PieceLaws.{word-count, text-laid, asked-count}
 use Rattle.laying.specs.Words.{baseOf, ownOf, listOf, wordsOf, Words, Kept, Knowing}
 use Rattle.laying.specs.Held.{blankDraft, shutDraft, Held}
 use Rattle.laying.specs.Adding.{Word-here, Name-here, Some-word, Name-laid, Some-variable, Variable-laid, roleOf, after, Piece-here, Some-piece, Piece-laid, Lays, Laid}
-use Rattle.laying.proofs.Adding.{held-shut}
+use Rattle.laying.proofs.Bracketing.{held-shut}
 
 -- What a piece is, by its role
 

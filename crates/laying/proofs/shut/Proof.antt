@@ -1,4 +1,4 @@
-use Rattle.laying.proofs.Adding.{small-answers}
+use Rattle.laying.proofs.Bracketing.{small-answers}
 use borrow.Author.Needs.{needs}
 use Rattle.laying.proofs.shut.Statement.{statement}
 use Rattle.laying.proofs.shut.Tie as tie
