@@ -7,7 +7,7 @@ use mathlib.Core.Path.{_≡_, refl, sym as inv, ap, _∙_}
 use mathlib.Core.Logic.{_⊎_, inl, inr}
 use mathlib.Core.List.{List}
 use lib.Dec.{ltb}
-use lib.ListN.{length, getD, set, length-set}
+use lib.ListN.{length, getD, set, length-set, List·getD-eq-default}
 use lib.Seq.{getD-set-same, getD-set-other}
 use Rattle.terms.specs.When.{_⇒_∣_}
 use Rattle.heap.specs.Heap.{bound}
@@ -28,13 +28,20 @@ pub record Trailed (before cells trail : List ℕ) (base n : ℕ) : Type 0 where
   pub kept : (v : ℕ) → v < base → (bound cells v ≡ bound before v) ⊎ ((bound before v ≡ 0) × On-trail trail 0 n v)
   pub inside : (i : ℕ) → i < n → getD trail i 0 < length cells
   pub fresh : (i : ℕ) → i < n → bound before (getD trail i 0) ≡ 0
+  pub held : (i : ℕ) → i < n → bound cells (getD trail i 0) ≡ 0 → ⊥
 
 pub trail-none : (cells trail : List ℕ) (base : ℕ) → Trailed cells cells trail base 0
-trail-none cells trail base = record { kept = λ v l. inl refl; inside = λ i l. absurd (omega arith); fresh = λ i l. absurd (omega arith) }
+trail-none cells trail base = record { kept = λ v l. inl refl; inside = λ i l. absurd (omega arith); fresh = λ i l. absurd (omega arith); held = λ i l. absurd (omega arith) }
 
 module _ {before cells trail : List ℕ} {base n : ℕ} (t : Trailed before cells trail base n) (v p : ℕ) (free : bound cells v ≡ 0) (inside : v < length cells) (room : n < length trail) where
   was-free : v < base → bound before v ≡ 0
   was-free l = elim (t .kept v l) [ inl e ↦ inv e ∙ free | inr x ↦ x .0 ]
+
+  still-held : (i : ℕ) → i < n → bound (set cells v (suc p)) (getD trail i 0) ≡ 0 → ⊥
+  still-held i h z = elim (ℕ-discrete (getD trail i 0) v) [
+    | yes e ↦ omega (arith, inv z ∙ ap (bound (set cells v (suc p))) e, getD-set-same cells v (suc p) 0 inside)
+    | no m ↦ t .held i h (inv (getD-set-other cells v (getD trail i 0) (suc p) 0 m) ∙ z)
+  ]
 
   trail-goal : v < base → Trailed before (set cells v (suc p)) (set trail n v) base (suc n)
   trail-goal l = record {
@@ -53,6 +60,10 @@ module _ {before cells trail : List ℕ} {base n : ℕ} (t : Trailed before cell
       | yes z ↦ ap (bound before) (ap (λ j. getD (set trail n v) j 0) z ∙ getD-set-same trail n v 0 room) ∙ was-free l
       | no m ↦ ap (bound before) (getD-set-other trail n i v 0 m) ∙ t .fresh i (omega (arith, h, m))
     ];
+    held = λ i h z. elim (ℕ-discrete i n) [
+      | yes e ↦ omega (arith, inv z ∙ ap (bound (set cells v (suc p))) (ap (λ j. getD (set trail n v) j 0) e ∙ getD-set-same trail n v 0 room), getD-set-same cells v (suc p) 0 inside)
+      | no m ↦ still-held i (omega (arith, h, m)) (ap (bound (set cells v (suc p))) (inv (getD-set-other trail n i v 0 m)) ∙ z)
+    ];
   }
 
   trail-clause : base ≤ v → Trailed before (set cells v (suc p)) trail base n
@@ -60,6 +71,7 @@ module _ {before cells trail : List ℕ} {base n : ℕ} (t : Trailed before cell
     kept = λ u h. elim (t .kept u h) [ inl e ↦ inl (getD-set-other cells v u (suc p) 0 (λ z. omega (arith, h, l, z)) ∙ e) | inr x ↦ inr x ];
     inside = λ i h. omega (arith, t .inside i h, length-set cells v (suc p));
     fresh = t .fresh;
+    held = still-held;
   }
 
   pub trail-bind : Trailed before (set cells v (suc p)) (noted base v n trail) base (counted base v n)
@@ -91,6 +103,13 @@ undo-one {before} {cells} {trail} {base} {i} u under v e inside s = rw s (record
   where
     later : (j : ℕ) → i ≤ j → (j ≡ i → ⊥) → suc i ≤ j
     later j a n = omega (arith, a, n)
+
+pub undo-free : (cells : List ℕ) (v w : ℕ) → bound cells w ≡ 0 → bound (set cells v 0) w ≡ 0
+undo-free cells v w e = elim (ℕ-discrete w v) [ yes z ↦ go (decLt v (length cells)) z | no m ↦ getD-set-other cells v w 0 0 m ∙ e ]
+  where
+    go : Dec (v < length cells) → w ≡ v → bound (set cells v 0) w ≡ 0
+    go (yes l) z = ap (bound (set cells v 0)) z ∙ getD-set-same cells v 0 0 l
+    go (no m) z = List·getD-eq-default (set cells v 0) 0 (omega (arith, m, z, length-set cells v 0))
 
 pub undo-end : {before cells trail : List ℕ} {base i n : ℕ} → Undone before cells trail base i n → n ≤ i → (v : ℕ) → v < base → bound cells v ≡ bound before v
 undo-end u l v h = elim (u .kept v h) [ inl e ↦ e | inr (j, a, b, e) ↦ absurd (omega (arith, a, b, l)) ]

@@ -1,5 +1,5 @@
 -- What two rows come to (Meeting, MeetLaws); pairs of rows that are due (Pairs, PairLaws); the occur check
--- (Occurring); what a trial has bound (Binding); two rows made equal (Unifying, StepLaws, UnifyLaws); where all are free, by a
+-- (Occurring); what a trial has bound (Binding); two rows made equal (Unifying, StepLaws, UnseenLaws, UnifyLaws); where all are free, by a
 -- most general unifier (TrialLaws).
 pub mod Meeting
 pub mod MeetLaws
@@ -9,5 +9,6 @@ pub mod Occurring
 pub mod Binding
 pub mod Unifying
 pub mod StepLaws
+pub mod UnseenLaws
 pub mod UnifyLaws
 pub mod TrialLaws

@@ -6,14 +6,16 @@ use mathlib.Core.Logic.{_↔_, inl, inr}
 use mathlib.Core.List.{List}
 use lib.ListN.{length}
 use Rattle.terms.specs.Subst.{In, Subst, apply, itself}
-use Rattle.terms.specs.SubstLaws.{apply-on, apply-itself}
+use Rattle.terms.specs.SubstLaws.{in-apply}
 use Rattle.heap.specs.Heap.{rows, Whole, bound, Made, Solves, Solved}
 use Rattle.heap.specs.HeapLaws.{rows-few}
+use Rattle.heap.specs.SolvedLaws.{solved-induction}
 use Rattle.matching.specs.Meeting.{Equal}
 use Rattle.matching.specs.Binding.{Trailed, trail-none}
 use Rattle.matching.specs.Pairs.{Equal-levels, Equal-all, Due, Behind, Settled, Entered}
 use Rattle.matching.specs.PairLaws.{none-due, first-row-whole}
-use Rattle.matching.specs.Unifying.{Unmixed, Begun, More, Kept-up, Stepped, Trail-kept, Unified}
+use Rattle.matching.specs.Unifying.{Unmixed, Begun, Unseen, More, Kept-up, Stepped, Trail-kept, Unified}
+use Rattle.matching.specs.UnseenLaws.{unseen as more-unseen}
 use Rattle.matching.specs.declared.pairs.Pairs.{Pairs}
 use Rattle.matching.specs.declared.unifying.Trial.{Trial}
 use Rattle.matching.specs.declared.unifying.Step.the-variants as Step
@@ -30,6 +32,7 @@ pub record Unifying (heap cells trail : List ℕ) (t : Trial) (p q : ℕ) (cells
   pub ended : x .due ≡ 0 → x .depth ≡ 0
   pub just : (τ : Subst) → (Solves heap cells τ × Equal heap τ 1 p q) ↔ (Solves heap cells′ τ × Equal-all heap stack τ x)
   pub trailed : (before : List ℕ) → Trailed before cells trail (t .base) (t .count) → Trailed before cells′ trail′ (t .base) count
+  pub unseen : Unseen heap cells cells′
   pub spent : count + fuel ≤ t .count + t .fuel
   pub less : fuel ≤ t .fuel
 
@@ -49,6 +52,7 @@ module _ {heap cells trail : List ℕ} {t : Trial} {p q : ℕ} where
     ended = λ e. absurd (omega arith);
     just = λ τ. (λ (s, e). (s, (e, tt)), λ (s, e). (s, e .0));
     trailed = λ before b. b;
+    unseen = λ θ s n v f h e. e;
     spent = omega arith;
     less = omega arith;
   }
@@ -61,18 +65,28 @@ module _ {heap cells trail : List ℕ} {t : Trial} {p q : ℕ} where
     pub first-pair : 0 < x .due → Whole heap 1 (x .p) × Whole heap 1 (x .q)
     first-pair l = (first-row-whole heap (x .due) (x .p) l (u .due .left), first-row-whole heap (x .due) (x .q) l (u .due .right))
 
-    -- as long as no goal variable is on the trail
+    -- as long as no goal variable is on the trail, the goal's variables stand for rows before the clause
     pub still-unmixed : Begun heap cells t → (left : ℕ) → Unmixed heap cells′ (now t count left)
     still-unmixed b left none v r high before whole θ s i =
-        let own : apply θ (rows heap 1 r) ≡ rows heap 1 r
-        = apply-on θ itself (rows heap 1 r) (λ y j. s .free y (unbound y (b .low r before whole y j))) ∙ apply-itself (rows heap 1 r) in
-        omega (arith, high, b .low r before whole v (subst (In v) own i))
+        let (w, j, k) = in-apply v θ (rows heap 1 r) i in
+        omega (arith, high, stays w (b .low r before whole w j) v k)
       where
-        unbound : (y : ℕ) → y < t .base → bound cells′ y ≡ 0
-        unbound y l = elim (u .trailed cells (subst (Trailed cells cells trail (t .base)) (inv (b .none)) (trail-none cells trail (t .base))) .kept y l) [
-          | inl e ↦ e ∙ b .free y l
+        as-before : (y : ℕ) → y < t .base → bound cells′ y ≡ bound cells y
+        as-before y l = elim (u .trailed cells (subst (Trailed cells cells trail (t .base)) (inv (b .none)) (trail-none cells trail (t .base))) .kept y l) [
+          | inl e ↦ e
           | inr (z, (j, a, under, e)) ↦ absurd (omega (arith, under, none))
         ]
+
+        alone : (y v : ℕ) → In v (itself y) → v ≡ y
+        alone y v (inl e) = e
+        alone y v (inr e) = absurd e
+
+        stays : (y : ℕ) → y < t .base → (v : ℕ) → In v (θ y) → v < t .base
+        stays = solved-induction (u .made) s (λ y. y < t .base → (v : ℕ) → In v (θ y) → v < t .base)
+            (λ y z l v k. omega (arith, l, alone y v (subst (In v) (s .free y z) k)))
+            (λ y p e all l v k.
+            let (w, j, m) = in-apply v θ (rows heap 1 p) (subst (In v) (s .solves .stands y p e) k) in
+            all w j (b .low p (b .inner y p l (inv (as-before y l) ∙ e)) (u .made .whole y p e) w j) v m)
 
     pub pair-few : x .due ≤ length heap
     pair-few = rows-few heap (x .due) (x .p) (u .due .left)
@@ -88,6 +102,7 @@ module _ {heap cells trail : List ℕ} {t : Trial} {p q : ℕ} where
       },
       unify-kept,
       u .spent,
+      u .unseen,
     )
       where
         none : x .due ≡ 0
@@ -121,6 +136,7 @@ module _ {heap cells trail : List ℕ} {t : Trial} {p q : ℕ} where
           λ (a, b). let (c, d) = more .just τ .1 a in u .just τ .1 (c, split τ c .1 (d, s .just heap τ .0 b)),
         );
         trailed = λ before z. kept .trailed before (u .trailed before z);
+        unseen = λ θ z n v f h e. let (θ′, z′) = u .solved θ z in more-unseen more (more .solved θ′ z′ .1) n v f h (u .unseen θ z n v f h e);
         spent = omega (arith, u .spent, kept .slow, small, paid);
         less = omega (arith, u .less, small, paid);
       }
@@ -141,13 +157,14 @@ module _ {heap cells trail : List ℕ} {t : Trial} {p q : ℕ} where
           λ (c, d). let (e, f) = s .just heap τ .0 d in u .just τ .1 (c, split τ c .1 (args τ c .1 e, f)),
         );
         trailed = u .trailed;
+        unseen = u .unseen;
         spent = omega (arith, u .spent, paid);
         less = omega (arith, u .less, paid);
       }))
 
       -- it can't be made equal
       pub unify-clash : {cells″ trail″ : List ℕ} → (cells″ ≡ cells′) × (trail″ ≡ trail′) × ((τ : Subst) → Solves heap cells′ τ → ¬ Equal heap τ 1 (x .p) (x .q)) → Unified heap cells trail t p q cells″ trail″ (Tried.Clash count)
-      unify-clash (ec, et, none) = rw ec (rw et (unify-kept, λ τ s e. let (a, b) = u .just τ .0 (s, e) in none τ a (split τ a .0 b .0)))
+      unify-clash (ec, et, none) = rw ec (rw et (unify-kept, λ τ s e. let (a, b) = u .just τ .0 (s, e) in none τ a (split τ a .0 b .0), u .unseen))
 
       pub unify-tired : {cells″ trail″ : List ℕ} → (cells″ ≡ cells′) × (trail″ ≡ trail′) → Unified heap cells trail t p q cells″ trail″ (Tried.Tired count)
-      unify-tired (ec, et) = rw ec (rw et unify-kept)
+      unify-tired (ec, et) = rw ec (rw et (unify-kept, u .unseen))

@@ -7,7 +7,7 @@ use mathlib.Core.List.{List, [], _∷_}
 use lib.ListN.{length, getD, set, length-set}
 use Rattle.terms.specs.Node.{var, sym, Expr}
 use Rattle.terms.specs.Subst.{In, Subst, apply, after, itself, only}
-use Rattle.words.specs.Word.{kindOf, node}
+use Rattle.words.specs.Word.{kindOf, Fits, node}
 use Rattle.words.specs.WordLaws.{node-sym}
 use Rattle.heap.specs.Heap.{rows, Whole, bound, Made, Solves, Solved}
 use Rattle.heap.specs.HeapLaws.{stands-var, stands-sym}
@@ -29,11 +29,15 @@ Unmixed heap cells t = t .count ≡ 0 → (v r : ℕ) → t .base ≤ v → r < 
 abbrev pub Low : List ℕ → ℕ → ℕ → Type 0
 Low heap base start = (r : ℕ) → r < start → Whole heap 1 r → (v : ℕ) → In v (rows heap 1 r) → v < base
 
--- a trial that begins: what stands before the clause has the goal's variables alone, and none of them is bound
+-- a trial that begins: what stands before the clause has the goal's variables alone, and those of them that are bound are bound to what stands there
 pub record Begun (heap cells : List ℕ) (t : Trial) : Type 0 where
   pub none : t .count ≡ 0
-  pub free : (v : ℕ) → v < t .base → bound cells v ≡ 0
+  pub inner : (v p : ℕ) → v < t .base → bound cells v ≡ suc p → p < t .start
   pub low : Low heap (t .base) (t .start)
+
+-- variables that are not on the heap are not bound
+abbrev pub Unseen : List ℕ → List ℕ → List ℕ → Type 0
+Unseen heap cells cells′ = (θ : Subst) → Solved heap cells θ → (n v : ℕ) → Fits n heap → n ≤ v → bound cells v ≡ 0 → bound cells′ v ≡ 0
 
 -- more is bound, and the rows at p and q are equal for it: for just those solutions of what was bound before that make them equal
 pub record More (heap cells : List ℕ) (p q : ℕ) (cells′ : List ℕ) : Type 0 where
@@ -73,6 +77,6 @@ abbrev pub Trail-kept : List ℕ → List ℕ → Trial → List ℕ → List �
 Trail-kept cells trail t cells′ trail′ count = ((before : List ℕ) → Trailed before cells trail (t .base) (t .count) → Trailed before cells′ trail′ (t .base) count) × (count ≤ t .count + t .fuel) × (length cells′ ≡ length cells)
 
 abbrev pub Unified : List ℕ → List ℕ → List ℕ → Trial → ℕ → ℕ → List ℕ → List ℕ → Tried → Type 0
-Unified heap cells trail t p q cells′ trail′ (Tried.Fits count left) = More heap cells p q cells′ × Trail-kept cells trail t cells′ trail′ count × (count + left ≤ t .count + t .fuel)
-Unified heap cells trail t p q cells′ trail′ (Tried.Clash count) = Trail-kept cells trail t cells′ trail′ count × ((τ : Subst) → Solves heap cells τ → ¬ Equal heap τ 1 p q)
-Unified heap cells trail t p q cells′ trail′ (Tried.Tired count) = Trail-kept cells trail t cells′ trail′ count
+Unified heap cells trail t p q cells′ trail′ (Tried.Fits count left) = More heap cells p q cells′ × Trail-kept cells trail t cells′ trail′ count × (count + left ≤ t .count + t .fuel) × Unseen heap cells cells′
+Unified heap cells trail t p q cells′ trail′ (Tried.Clash count) = Trail-kept cells trail t cells′ trail′ count × ((τ : Subst) → Solves heap cells τ → ¬ Equal heap τ 1 p q) × Unseen heap cells cells′
+Unified heap cells trail t p q cells′ trail′ (Tried.Tired count) = Trail-kept cells trail t cells′ trail′ count × Unseen heap cells cells′

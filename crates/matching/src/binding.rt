@@ -33,7 +33,8 @@ pub fn bind(
 // The goal variables that a trial bound are not bound any more.
 pub fn undo(cells: &mut [u16], trail: &[u16], count: usize)
     requires { ⌜ (count ≤ length (now trail)) × ((i : ℕ) → i < count → getD (now trail) i 0 < length (now cells)) ⌝ }
-    ensures { λ _. ⌜ ((before : List ℕ) (base : ℕ) → Trailed before (now (cells .entry)) (now (trail .entry)) base count → (v : ℕ) → v < base → bound (now (cells .exit)) v ≡ bound before v) ⌝ }
+    ensures free { λ _. ⌜ ((v : ℕ) → bound (now (cells .entry)) v ≡ 0 → bound (now (cells .exit)) v ≡ 0) ⌝ }
+    ensures undone { λ _. ⌜ ((before : List ℕ) (base : ℕ) → Trailed before (now (cells .entry)) (now (trail .entry)) base count → (v : ℕ) → v < base → bound (now (cells .exit)) v ≡ bound before v) ⌝ }
 {
     let mut i = 0;
     while i < count {

@@ -51,13 +51,13 @@ module _ (x : Goal) where
 
 -- goal and answer stand for F, G and A, whose variables are below `base`; numbered they are f, g and a
 module _ (F : Expr) (G A : Goal) (f : Expr) (g a : Goal) (is : number-all [] (F ∷ (G ++ A)) ≡ f ∷ (g ++ a)) (base : ℕ) (low : (v : ℕ) → In-any v (F ∷ (G ++ A)) → v < base) (c : Clause) where
-  abbrev α : ℕ → ℕ
+  abbrev pub α : ℕ → ℕ
   α = name (F ∷ (G ++ A))
 
   abbrev pub past : ℕ → ℕ
   past v = v + base
 
-  stood : map (rename α) (f ∷ (g ++ a)) ≡ F ∷ (G ++ A)
+  pub stood : map (rename α) (f ∷ (g ++ a)) ≡ F ∷ (G ++ A)
   stood = ap (map (rename α)) (inv is) ∙ named (F ∷ (G ++ A))
 
   far : Apart α past (f ∷ (g ++ a)) (c .head ∷ c .body)
@@ -71,7 +71,7 @@ module _ (F : Expr) (G A : Goal) (f : Expr) (g a : Goal) (is : number-all [] (F 
   any-front v (e ∷ l) m (inl i) = inl i
   any-front v (e ∷ l) m (inr i) = inr (any-front v l m i)
 
-  near : Apart α past (f ∷ g) (c .head ∷ c .body)
+  pub near : Apart α past (f ∷ g) (c .head ∷ c .body)
   near = record {
     left = λ v w i j. far .left v w (any-front v (f ∷ g) a i) (any-front w (f ∷ g) a j);
     right = far .right;

@@ -50,7 +50,7 @@ row-behind (row-sym {n} w) zero l = (n, row-sym w)
 row-behind (row-var w) (suc r) l = row-behind w r (omega arith)
 row-behind (row-sym w) (suc r) l = row-behind w r (omega arith)
 
-in-rows : {k : ℕ} {e : Expr} → Row k e → (x : Expr) (r : ℕ) → r < length e → (v : ℕ) → In v (firsts 1 (drop r (e ++ x))) → In v e
+pub in-rows : {k : ℕ} {e : Expr} → Row k e → (x : Expr) (r : ℕ) → r < length e → (v : ℕ) → In v (firsts 1 (drop r (e ++ x))) → In v e
 in-rows {k} {e} w x r l v i =
     let (n, d) = row-behind w r l in
     let (first, rest) = row-split 1 n (omega arith) d in

@@ -75,7 +75,7 @@ pub start-few : (q : ℕ) (t : Trial) → Starts q t → (t .fuel ≤ 8448) × (
 start-few q t (k, l, e) = rw e (l, omega (arith, l))
 
 pub begins : {heap cells : List ℕ} → Free cells → (q : ℕ) → Low heap 8192 q → (t : Trial) → Starts q t → Begun heap cells t
-begins free q low t (k, l, e) = rw e (record { none = refl; free = λ v h. free v; low = low })
+begins free q low t (k, l, e) = rw e (record { none = refl; inner = λ v p l e. absurd (omega (arith, free v, e)); low = low })
 
 -- the trail after the part is back
 pub trail-back : (tables now : List ℕ) → length tables ≡ 30464 → length now ≡ length (take 8448 (drop 16512 tables)) → trail (putMid 16512 8448 tables now) ≡ now

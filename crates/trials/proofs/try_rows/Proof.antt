@@ -43,7 +43,7 @@ enum-known-count-3 : tie.Need-enum-known-count-3
 enum-known-count-3 c = search needs
 
 release-requires-2 : tie.Need-release-requires-2
-release-requires-2 c κs = let k = c .before .before .before .before .before .before .before .before .before .before .before .before .before .before .before .before .before .before .before .before .pre in let u = c .before .before .before .before .before .before .before .before .before .before .before .unify in let e = subst (Unified _ _ _ _ _ _ _ _) (c .before .before .before .count3 .given .1) (u .ensures) in (u .kept .1 .0 ∙ k .2, same-len-mid 16512 8448 (c .before .before .before .before .before .before .before .before .before .before .before .before .before .before .before .before .before .before .before .before .args .rows .now) (u .last .1 .1 .0) (u .kept .1 .1 .0) ∙ k .3, undoable (c .before .before .before .before .before .before .before .before .before .before .before .before .before .before .before .before .before .before .before .before .args .heap .now) (c .before .before .before .before .before .before .before .before .before .before .before .before .before .before .before .before .before .before .before .before .args .cells .now) (c .before .before .before .before .before .before .before .before .before .before .before .before .before .before .before .before .before .before .before .before .args .rows .now) (k .1) (c .before .before .before .before .before .before .before .before .before .before .before .before .before .before .before .before .before .before .before .before .args .q) (u .last .1 .0) (u .last .1 .1 .0) _ _ (trail-back (c .before .before .before .before .before .before .before .before .before .before .before .before .before .before .before .before .before .before .before .before .args .rows .now) (u .last .1 .1 .0) (k .3) (u .kept .1 .1 .0)) _ (c .before .before .before .before .before .before .before .before .before .before .before .before .before .before .before .before .begun .ensures) e)
+release-requires-2 c κs = let k = c .before .before .before .before .before .before .before .before .before .before .before .before .before .before .before .before .before .before .before .before .pre in let u = c .before .before .before .before .before .before .before .before .before .before .before .unify in let e = subst (Unified _ _ _ _ _ _ _ _) (c .before .before .before .count3 .given .1) (u .ensures) in (u .kept .1 .0 ∙ k .2, same-len-mid 16512 8448 (c .before .before .before .before .before .before .before .before .before .before .before .before .before .before .before .before .before .before .before .before .args .rows .now) (u .last .1 .1 .0) (u .kept .1 .1 .0) ∙ k .3, undoable (c .before .before .before .before .before .before .before .before .before .before .before .before .before .before .before .before .before .before .before .before .args .heap .now) (c .before .before .before .before .before .before .before .before .before .before .before .before .before .before .before .before .before .before .before .before .args .cells .now) (c .before .before .before .before .before .before .before .before .before .before .before .before .before .before .before .before .before .before .before .before .args .rows .now) (k .1) (c .before .before .before .before .before .before .before .before .before .before .before .before .before .before .before .before .before .before .before .before .args .q) (u .last .1 .0) (u .last .1 .1 .0) _ _ (trail-back (c .before .before .before .before .before .before .before .before .before .before .before .before .before .before .before .before .before .before .before .before .args .rows .now) (u .last .1 .1 .0) (k .3) (u .kept .1 .1 .0)) _ (c .before .before .before .before .before .before .before .before .before .before .before .before .before .before .before .before .begun .ensures) (e .0))
 
 same-length : tie.Need-same-length
 same-length c = search needs

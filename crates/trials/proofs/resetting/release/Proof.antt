@@ -25,7 +25,7 @@ same-length : tie.Need-same-length
 same-length c = search needs
 
 returns : tie.Need-returns
-returns c = let u = c .before .before .before .before .before .before .before .before .before .before .before .pre .2 in c .before .before .clear .ensures (λ v l. c .before .before .before .before .before .before .undo .ensures (u .before) 8192 (u .trailed) v l ∙ u .free v)
+returns c = let u = c .before .before .before .before .before .before .before .before .before .before .before .pre .2 in c .before .before .clear .ensures (λ v l. c .before .before .before .before .before .before .undo .ensures .1 (u .before) 8192 (u .trailed) v l ∙ u .free v)
 
 pub release-spec : {M : Type 1} → statement M
 release-spec = tie.close (tie.spec sub-undo part-undo-start part-undo-end undo-requires clear-requires same-length returns)
