@@ -1,0 +1,144 @@
+-- Nodes counted on a walk, and variables of a trail gone through.
+use Prim.Native.Nat.{ℕ, suc, _+_, _-_, _<_, _≤_}
+use native.Mathlib.Omega.{arith}
+use native.Mathlib.Decide.{ℕ-discrete, decLt}
+use mathlib.Core.Path.{_≡_, refl, sym as inv, ap, _∙_, subst}
+use mathlib.Core.List.{List, [], _∷_}
+use lib.ListN.{length, getD, List·getD-eq-default}
+use Rattle.terms.specs.Node.{Node, var, sym, Expr}
+use Rattle.terms.specs.Subst.{Subst, apply}
+use Rattle.words.specs.Word.{kindOf, node}
+use Rattle.words.specs.WordLaws.{node-var, node-sym}
+use Rattle.heap.specs.Heap.{rows, Whole, bound, Made, Solved}
+use Rattle.heap.specs.HeapLaws.{rows-none}
+use Rattle.heap.specs.Walking.{ahead, Ready, Visited}
+use Rattle.heap.specs.PartLaws.{ahead-alone}
+use Rattle.heap.specs.declared.walking.Walk.{Walk}
+use Rattle.bounds.specs.Places.{places}
+use Rattle.bounds.specs.Sizing.{Known, Sized, Bound, Grown}
+use Rattle.bounds.specs.declared.Size.{Size}
+
+-- One node, and whether it is a variable.
+pub one-var : (u : ℕ) → kindOf u ≡ 1 → 1 ≡ places (node u ∷ [])
+one-var u k = ap (λ x. places (x ∷ [])) (inv (node-var u k))
+
+pub one-sym : (u : ℕ) → (kindOf u ≡ 1 → ⊥) → 0 ≡ places (node u ∷ [])
+one-sym u n = let (s, e) = node-sym u n in ap (λ x. places (x ∷ [])) (inv e)
+
+places-cons : (x : Node) (e : Expr) → places (x ∷ e) ≡ places (x ∷ []) + places e
+places-cons (var v) e = omega arith
+places-cons (sym s) e = omega arith
+
+-- after some nodes the walk w is left
+pub record Counting (heap cells : List ℕ) (at due limit : ℕ) (levels : List ℕ) (nodes variables : ℕ) (w : Walk) : Type 0 where
+  pub ready : Ready heap levels w
+  pub deep : w .depth ≤ nodes
+  pub room : 514 ≤ length levels
+  pub few : variables ≤ nodes
+  pub low : nodes ≤ limit
+  pub long : (θ : Subst) → Solved heap cells θ → nodes + length (ahead heap levels θ w) ≡ length (apply θ (rows heap due at))
+  pub held : (θ : Subst) → Solved heap cells θ → variables + places (ahead heap levels θ w) ≡ places (apply θ (rows heap due at))
+
+module _ {heap cells : List ℕ} {at due limit : ℕ} where
+  pub count-start : {levels : List ℕ} → Whole heap due at → 514 ≤ length levels → Counting heap cells at due limit levels 0 0 (record { at = at; due = due; depth = 0 })
+  count-start {levels} r l = record {
+    ready = record { front = r; back = λ i h. absurd (omega arith); ended = λ e. refl; room = omega arith };
+    deep = omega arith;
+    room = l;
+    few = omega arith;
+    low = omega arith;
+    long = λ θ s. omega (arith, ap length (alone θ));
+    held = λ θ s. omega (arith, ap places (alone θ));
+  }
+    where
+      alone : (θ : Subst) → ahead heap levels θ (record { at = at; due = due; depth = 0 }) ≡ apply θ (rows heap due at)
+      alone θ = ahead-alone heap cells levels (record { at = at; due = due; depth = 0 }) refl θ
+
+  module _ {levels : List ℕ} {nodes variables : ℕ} {w : Walk} (x : Counting heap cells at due limit levels nodes variables w) where
+    pub count-end : w .due ≤ 0 → Sized heap cells at due limit (record { nodes = nodes; variables = variables })
+    count-end z = record {
+      few = x .few;
+      low = λ k. x .low;
+      long = λ k θ s. omega (arith, x .long θ s, ap length (nothing θ));
+      places = λ k θ s. omega (arith, x .held θ s, ap places (nothing θ));
+    }
+      where
+        none : w .due ≡ 0
+        none = omega (arith, z)
+
+        nothing : (θ : Subst) → ahead heap levels θ w ≡ []
+        nothing θ = ahead-alone heap cells levels w (x .ready .ended none) θ ∙ ap (λ n. apply θ (rows heap n (w .at))) none ∙ ap (apply θ) (rows-none heap (w .at))
+
+    pub count-on : {u : ℕ} {levels′ : List ℕ} {w′ : Walk} → Visited heap cells levels w u levels′ w′ → (nodes ≡ limit → ⊥) → {k : ℕ} → k ≡ places (node u ∷ []) → k ≤ 1
+        → {n v : ℕ} → n ≡ nodes + 1 → v ≡ variables + k → Counting heap cells at due limit levels′ n v w′
+    count-on {u} {levels′} {w′} visit more is one en ev = record {
+      ready = visit .ready;
+      deep = omega (arith, x .deep, visit .deep, en);
+      room = omega (arith, x .room, visit .long);
+      few = omega (arith, x .few, one, en, ev);
+      low = omega (arith, x .low, more, en);
+      long = λ θ s. omega (arith, x .long θ s, ap length (visit .same θ s), en);
+      held = λ θ s. omega (arith, x .held θ s, ap places (visit .same θ s), places-cons (node u) (ahead heap levels′ θ w′), is, ev);
+    }
+
+-- One variable more of a trail.
+module _ {heap cells trail : List ℕ} where
+  pub grown-start : {limit : ℕ} → 1 ≤ limit → Grown heap cells trail 0 limit (record { nodes = 1; variables = 1 })
+  grown-start l = record {
+    some = omega arith;
+    few = omega arith;
+    one = λ k. omega arith;
+    low = λ k. l;
+    long = λ k i h. absurd (omega arith);
+    places = λ k i h. absurd (omega arith);
+  }
+
+  pub grown-end : {count i n m limit : ℕ} → Grown heap cells trail i limit (record { nodes = n; variables = m }) → count ≤ i → i ≤ count
+      → Grown heap cells trail count limit (record { nodes = n; variables = m })
+  grown-end {n = n} {m} {limit} g l h = subst (λ k. Grown heap cells trail k limit (record { nodes = n; variables = m })) (omega (arith, l, h)) g
+
+  -- the variable v of the trail is bound to the row at b - 1
+  module _ (made : Made heap cells) {count : ℕ} (all : Bound cells trail count) (i : ℕ) (l : i < count) {v : ℕ} (ev : v ≡ getD trail i 0) where
+    some : bound cells v ≡ 0 → ⊥
+    some e = all .each i l (ap (bound cells) (inv ev) ∙ e)
+
+    pub trail-inside : v < length cells
+    trail-inside = elim (decLt v (length cells)) [ yes h ↦ h | no n ↦ absurd (some (List·getD-eq-default cells 0 (omega (arith, n)))) ]
+
+    module _ {b : ℕ} (eb : b ≡ getD cells v 0) where
+      pub trail-bound : 1 ≤ b
+      trail-bound = elim (ℕ-discrete b 0) [ yes z ↦ absurd (some (inv eb ∙ z)) | no n ↦ omega (arith, n) ]
+
+      module _ {p : ℕ} (ep : p ≡ b - 1) where
+        row : bound cells v ≡ suc p
+        row = omega (arith, eb, ep, trail-bound)
+
+        pub trail-whole : Whole heap 1 p
+        trail-whole = made .whole v p row
+
+        stands : (θ : Subst) → Solved heap cells θ → θ (getD trail i 0) ≡ apply θ (rows heap 1 p)
+        stands θ t = ap θ (inv ev) ∙ t .solves .stands v p row
+
+        pub grown-on : {n m limit : ℕ} → Grown heap cells trail i limit (record { nodes = n; variables = m }) → n ≤ limit → limit ≤ 8192 → {r : Size} → Sized heap cells p 1 limit r → Known r → {n′ m′ : ℕ}
+            → (n ≤ n′) × (r .nodes ≤ n′) × ((k : ℕ) → n ≤ k → r .nodes ≤ k → n′ ≤ k) → (m ≤ m′) × (r .variables ≤ m′) × ((k : ℕ) → m ≤ k → r .variables ≤ k → m′ ≤ k)
+            → {j : ℕ} → j ≡ i + 1 → Grown heap cells trail j limit (record { nodes = n′; variables = m′ }) × (n′ ≤ limit)
+        grown-on {n} {m} {limit} g low high {r} s known {n′} {m′} a b {j} ej = (
+          record {
+            some = omega (arith, g .some, a .0);
+            few = b .2 n′ (omega (arith, g .few, a .0)) (omega (arith, s .few, a .1));
+            one = λ k. omega (arith, g .one was, b .0);
+            low = λ k. a .2 limit low (s .low known);
+            long = λ k x h θ t. elim (ℕ-discrete x i) [
+              | yes z ↦ omega (arith, a .1, s .long known θ t, ap length (stands θ t), ap (λ y. length (θ (getD trail y 0))) z)
+              | no d ↦ omega (arith, a .0, g .long was x (omega (arith, h, d, ej)) θ t)
+            ];
+            places = λ k x h θ t. elim (ℕ-discrete x i) [
+              | yes z ↦ omega (arith, b .1, s .places known θ t, ap places (stands θ t), ap (λ y. places (θ (getD trail y 0))) z)
+              | no d ↦ omega (arith, b .0, g .places was x (omega (arith, h, d, ej)) θ t)
+            ];
+          },
+          a .2 limit low (s .low known),
+        )
+          where
+            was : Known (record { nodes = n; variables = m })
+            was e = omega (arith, e, low, high)

@@ -1,0 +1,25 @@
+-- Places of variables in an expression, counted and weighed.
+use Prim.Native.Nat.{ℕ, _+_}
+use mathlib.Core.List.{List, [], _∷_}
+use lib.Dec.{eqb}
+use Rattle.terms.specs.When.{_⇒_∣_}
+use Rattle.terms.specs.Node.{var, sym, Expr}
+
+-- what the variables of an expression weigh, each as often as it is there
+abbrev pub weigh : (ℕ → ℕ) → Expr → ℕ
+weigh w [] = 0
+weigh w (var v ∷ e) = w v + weigh w e
+weigh w (sym s ∷ e) = weigh w e
+
+-- how many places of variables there are
+abbrev pub places : Expr → ℕ
+places e = weigh (λ v. 1) e
+
+-- how often x is there
+abbrev pub times : ℕ → Expr → ℕ
+times x e = weigh (λ v. eqb x v ⇒ 1 ∣ 0) e
+
+-- the same of several expressions
+abbrev pub places-all : List Expr → ℕ
+places-all [] = 0
+places-all (f ∷ g) = places f + places-all g

@@ -1,0 +1,33 @@
+-- How large what rows stand for is, and what a variable of a trail stands for at most.
+use Prim.Native.Nat.{ℕ, _<_, _≤_}
+use mathlib.Core.Path.{_≡_}
+use mathlib.Core.List.{List}
+use lib.ListN.{length, getD}
+use Rattle.terms.specs.Subst.{Subst, apply}
+use Rattle.heap.specs.Heap.{rows, bound, Solved}
+use Rattle.bounds.specs.Places.{places}
+use Rattle.bounds.specs.declared.Size.{Size}
+
+-- a size is known unless it says 65535 nodes
+abbrev pub Known : Size → Type 0
+Known r = r .nodes ≡ 65535 → ⊥
+
+-- what `due` rows at a position stand for has just so many nodes and places of variables, within the limit
+pub record Sized (heap cells : List ℕ) (at due limit : ℕ) (r : Size) : Type 0 where
+  pub few : r .variables ≤ r .nodes
+  pub low : Known r → r .nodes ≤ limit
+  pub long : Known r → (θ : Subst) → Solved heap cells θ → r .nodes ≡ length (apply θ (rows heap due at))
+  pub places : Known r → (θ : Subst) → Solved heap cells θ → r .variables ≡ places (apply θ (rows heap due at))
+
+-- the first variables of a trail are bound
+pub record Bound (cells trail : List ℕ) (count : ℕ) : Type 0 where
+  pub each : (i : ℕ) → i < count → bound cells (getD trail i 0) ≡ 0 → ⊥
+
+-- and each of them stands for at most so many nodes and places of variables
+pub record Grown (heap cells trail : List ℕ) (count limit : ℕ) (r : Size) : Type 0 where
+  pub some : 1 ≤ r .nodes
+  pub few : r .variables ≤ r .nodes
+  pub one : Known r → 1 ≤ r .variables
+  pub low : Known r → r .nodes ≤ limit
+  pub long : Known r → (i : ℕ) → i < count → (θ : Subst) → Solved heap cells θ → length (θ (getD trail i 0)) ≤ r .nodes
+  pub places : Known r → (i : ℕ) → i < count → (θ : Subst) → Solved heap cells θ → places (θ (getD trail i 0)) ≤ r .variables

@@ -1,0 +1,114 @@
+// How large what rows of the heap stand for is, and how much larger a step may make it.
+use heap::SYMBOL;
+use heap::walking::DEEPEST;
+use heap::walking::Walk;
+use heap::walking::next;
+use words::get;
+ghost use mathlib.Core.Path.{_≡_};
+ghost use mathlib.Core.List.{[], _∷_};
+ghost use Prim.Native.Nat.{ℕ, _≤_};
+ghost use lib.ListN.{length};
+ghost use Rattle.words.specs.Word.{Valid, node};
+ghost use Rattle.heap.specs.Heap.{Made, Whole};
+ghost use Rattle.bounds.specs.Places.{places};
+ghost use Rattle.bounds.specs.Sizing.{Sized, Bound, Grown};
+
+pub mod clauses; // what a clause's body adds to its head
+
+// How many nodes, and how many of them are variables.
+pub struct Size {
+    pub nodes: usize,
+    pub variables: usize,
+}
+
+// As many nodes as are not counted, or not known.
+pub const OVER: usize = 65535;
+
+fn over() -> Size
+    ensures { λ r. ⌜ (r .nodes ≡ 65535) × (r .variables ≡ 0) ⌝ }
+{
+    Size {
+        nodes: OVER,
+        variables: 0,
+    }
+}
+
+pub fn one_if_variable(u: u32) -> usize
+    requires { ⌜ Valid u ⌝ }
+    ensures { λ r. ⌜ (r ≡ places (node u ∷ [])) × (r ≤ 1) ⌝ }
+{
+    if u < SYMBOL {
+        return 1;
+    }
+    0
+}
+
+pub fn larger(a: usize, b: usize) -> usize
+    ensures { λ r. ⌜ (a ≤ r) × (b ≤ r) × ((m : ℕ) → a ≤ m → b ≤ m → r ≤ m) ⌝ }
+{
+    if a < b {
+        return b;
+    }
+    a
+}
+
+// What the rows stand for; OVER where that passes the limit, or where there are too many levels to say.
+pub fn size_of(
+    heap: &[u32],
+    cells: &[u16],
+    levels: &mut [u16],
+    at: usize,
+    due: usize,
+    limit: usize,
+) -> Size
+    requires { ⌜ Made (now heap) (now cells) × Whole (now heap) due at ⌝ }
+    requires { ⌜ (limit ≤ 8192) × (514 ≤ length (now levels)) ⌝ }
+    ensures { λ r. ⌜ Sized (now (heap .entry)) (now (cells .entry)) at due limit r ⌝ }
+{
+    let mut nodes = 0;
+    let mut variables = 0;
+    let mut w = Walk { at, due, depth: 0 };
+    while 0 < w.due {
+        if nodes == limit {
+            return over();
+        }
+        if DEEPEST <= w.depth {
+            return over();
+        }
+        let seen = next(heap, cells, levels, w);
+        nodes += 1;
+        variables += one_if_variable(seen.word);
+        w = seen.walk;
+    }
+    Size { nodes, variables }
+}
+
+// The most that a variable of the trail stands for, and 1 at least.
+pub fn growth(
+    heap: &[u32],
+    cells: &[u16],
+    levels: &mut [u16],
+    trail: &[u16],
+    count: usize,
+    limit: usize,
+) -> Size
+    requires { ⌜ Made (now heap) (now cells) × Bound (now cells) (now trail) count ⌝ }
+    requires { ⌜ (1 ≤ limit) × (limit ≤ 8192) × (514 ≤ length (now levels)) × (count ≤ length (now trail)) ⌝ }
+    ensures { λ r. ⌜ Grown (now (heap .entry)) (now (cells .entry)) (now (trail .entry)) count limit r ⌝ }
+{
+    let mut nodes = 1;
+    let mut variables = 1;
+    let mut i = 0;
+    while i < count {
+        let v = get(trail, i);
+        let p = get(cells, v) - 1;
+        let s = size_of(heap, cells, levels, p, 1, limit);
+        if s.nodes == OVER {
+            return over();
+        }
+        nodes = larger(nodes, s.nodes);
+        variables = larger(variables, s.variables);
+        i += 1;
+    }
+    Size { nodes, variables }
+}
