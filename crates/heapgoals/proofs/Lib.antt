@@ -1,0 +1,7 @@
+-- Laws that the proofs share.
+mod Clears
+mod Counts
+mod Stands
+mod Tells
+mod Shows
+mod Outs
