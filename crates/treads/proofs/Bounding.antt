@@ -1,0 +1,245 @@
+-- How large the next goal and answer are at most.
+use Prim.Native.Nat.{ℕ, zero, suc, _+_, _*_, _-_, _<_, _≤_}
+use native.Mathlib.Omega.{arith}
+use mathlib.Core.Path.{_≡_, refl, sym as inv, ap, ap₂, _∙_, subst}
+use mathlib.Core.Logic.{_⊎_, inl, inr}
+use mathlib.Core.List.{List, [], _∷_, _++_, map, map-append, append-nil, append-assoc}
+use lib.ListN.{length, getD, take, drop, length-append, length-map, length-drop}
+use lib.Seq.{take-at, drop-at, length-take-le}
+use Rattle.terms.specs.Node.{var, sym, Expr}
+use Rattle.terms.specs.Subst.{In-any, Subst, Proper, apply, itself}
+use Rattle.terms.specs.SubstLaws.{apply-on, map-same}
+use Rattle.terms.specs.Rename.{rename}
+use Rattle.terms.specs.Number.{number-all}
+use Rattle.terms.specs.NumberLaws.{number-length}
+use Rattle.search.specs.Next.{Clause, Goal}
+use Rattle.search.specs.Room.{nodes}
+use Rattle.words.specs.Word.{Fits, nodes as heap-nodes}
+use Rattle.words.specs.WordLaws.{nodes-take, nodes-drop}
+use Rattle.words.specs.Flat.{flat, flat-apply, flat-size}
+use Rattle.words.specs.Held.{ClauseIn}
+use Rattle.words.specs.HeldLaws.{head-length}
+use Rattle.picking.specs.Laying.{moved}
+use Rattle.heap.specs.Heap.{rows, Whole, bound, Solved}
+use Rattle.heap.specs.SolvedLaws.{solved-one}
+use Rattle.matching.specs.Binding.{Trailed}
+use Rattle.trials.specs.Trying.{trail}
+use Rattle.bounds.specs.Places.{places, places-all}
+use Rattle.bounds.specs.Thrift.{fresh, Thrifty, Kept}
+use Rattle.bounds.specs.Sizing.{Known, Grown}
+use Rattle.bounds.specs.WeighLaws.{gain, length-apply}
+use Rattle.bounds.specs.GoalLaws.{nodes-append, places-flat, places-all-append, places-all-number, numbered-nodes}
+use Rattle.bounds.specs.RoomLaws.{room-leading, room-thrifty, places-thrifty, room-counted, places-counted, room-answer}
+use Rattle.bounds.specs.declared.Size.{Size}
+use Rattle.heapgoals.specs.Holding.{listed, answer-rows, used, Holds}
+use Rattle.heapgoals.specs.ListLaws.{listed-flat}
+use Rattle.heapgoals.specs.HoldLaws.{rest-rows, held-rows, held-first, first-meant, rest-meant, answer-meant, held-all, held-low, held-free}
+use Rattle.heapgoals.specs.declared.Standing.{Standing}
+use Rattle.treads.specs.Trying.{laid, Fitted}
+use Rattle.treads.specs.Stepping.{Under-way, body-at, body-rows, next-rows, first-of, Bounded}
+use Rattle.treads.specs.Adding.{span-words, head-long, Thrifty-adds, Counted-adds, Adds, Summed}
+use Rattle.treads.specs.declared.sizing.Span.{Span}
+use Rattle.treads.specs.declared.sizing.Added.{Added}
+use Rattle.treads.specs.declared.sizing.Bounds.{Bounds}
+use Rattle.treads.proofs.Laying.{whole-fits, unifier-meant, general}
+use Rattle.treads.proofs.Nexts.{body-is, body-whole, found, σ, on-clause, goal-meant, next-meant, all-meant, heap-short}
+
+places-few : (e : Expr) → places e ≤ length e
+places-few [] = omega arith
+places-few (var v ∷ e) = omega (arith, places-few e)
+places-few (sym s ∷ e) = omega (arith, places-few e)
+
+places-all-few : (g : Goal) → places-all g ≤ nodes g
+places-all-few [] = omega arith
+places-all-few (f ∷ g) = omega (arith, places-few f, places-all-few g)
+
+-- the first of some formulas
+first-map : (F : Expr → Expr) → F [] ≡ [] → (g : Goal) → first-of (map F g) ≡ F (first-of g)
+first-map F e [] = inv e
+first-map F e (f ∷ g) = refl
+
+first-flat : (g : Goal) → (x : Expr) × (flat g ≡ first-of g ++ x)
+first-flat [] = ([], refl)
+first-flat (f ∷ g) = (flat g, refl)
+
+longer : (θ : Subst) → Proper θ → (e : Expr) → length e ≤ length (apply θ e)
+longer θ ok e = omega (arith, length-apply θ ok e)
+
+rename-length : (ρ : ℕ → ℕ) (e : Expr) → length (rename ρ e) ≡ length e
+rename-length ρ [] = refl
+rename-length ρ (var v ∷ e) = ap suc (rename-length ρ e)
+rename-length ρ (sym s ∷ e) = ap suc (rename-length ρ e)
+
+module _ {words before levels : List ℕ} {s : Standing} {f : Expr} {g a : Goal} (h : Holds words before levels s (f ∷ g) a) (clause : List ℕ) (c : Span) (d : Clause) (q : ClauseIn clause (c .head - c .start) (c .bodies) d) (room : s .base ≤ 8192) (short : s .top + length clause < 65536)
+    (clause-long : length clause ≡ c .end - c .start) (ordered : (c .start < c .head) × (c .head ≤ c .end)) where
+  abbrev heap : List ℕ
+  heap = laid (used words s) (s .base) clause
+
+  abbrev past : ℕ → ℕ
+  past v = v + s .base
+
+  abbrev body : Goal
+  body = map (rename past) (d .body)
+
+  abbrev F : Expr
+  F = first-meant h
+
+  abbrev G : Goal
+  G = rest-meant h
+
+  abbrev A : Goal
+  A = answer-meant h
+
+  -- the clause's words
+  head-words : heap-nodes (take (head-long c) clause) ≡ d .head
+  head-words = nodes-take (head-long c) clause ∙ ap (take (head-long c)) (q .is) ∙ take-at (d .head) (flat (d .body)) (head-long c) (inv (q .head))
+
+  body-words : heap-nodes (drop (head-long c) clause) ≡ flat (d .body)
+  body-words = nodes-drop (head-long c) clause ∙ ap (drop (head-long c)) (q .is) ∙ drop-at (d .head) (flat (d .body)) (head-long c) (inv (q .head))
+
+  first-words : (n : ℕ) → n ≡ length (first-of (d .body)) → heap-nodes (take n (drop (head-long c) clause)) ≡ first-of (d .body)
+  first-words n e = let (x, is) = first-flat (d .body) in nodes-take n (drop (head-long c) clause) ∙ ap (take n) (body-words ∙ is) ∙ take-at (first-of (d .body)) x n (inv e)
+
+  first-long : length (first-of (body-rows heap s c)) ≡ length (first-of (d .body))
+  first-long = ap (λ l. length (first-of l)) (body-is h clause c d q room short) ∙ ap length (first-map (rename past) refl (d .body)) ∙ rename-length past (first-of (d .body))
+
+  pub first-fits : head-long c + length (first-of (body-rows heap s c)) ≤ length clause
+  first-fits = let (x, is) = first-flat (d .body) in omega (arith, first-long, head-length clause (c .head - c .start) (c .bodies) d q, ap length is, length-append (first-of (d .body)) x)
+
+  -- goal and answer as they stand
+  long-goal : length (f ∷ g) ≡ length (F ∷ G)
+  long-goal = omega (arith, h .goal-many, ap length (held-rows h), length-map (rest-rows (used words s) levels s) (apply (h .meaning)))
+
+  goal-sizes : (nodes (f ∷ g) ≡ nodes (F ∷ G)) × (nodes a ≡ nodes A)
+  goal-sizes = numbered-nodes (f ∷ g) a (F ∷ G) A (inv (held-all h)) long-goal
+
+  few-places : places-all (F ∷ (G ++ A)) ≤ s .variables
+  few-places = omega (arith, places-all-number [] (F ∷ (G ++ A)), ap places-all (held-all h), h .variables)
+
+  first-size : length f ≡ length F
+  first-size = ap length (inv (held-first h)) ∙ number-length [] F
+
+  module _ {cells tables : List ℕ} {count : ℕ} (fitted : Fitted heap before s cells tables count) where
+    abbrev z : (θ : Subst) × Solved heap cells θ
+    z = found h clause c d q room short fitted
+
+    abbrev τ : Subst
+    τ = σ h clause c d q room short fitted
+
+    -- a variable of goal and answer under the unifier
+    at-free : (v : ℕ) → bound before v ≡ 0 → τ v ≡ z .0 v
+    at-free v e =
+        inv (append-nil (τ v)) ∙ ap (apply τ) (inv (h .solved .free v e) ∙ inv (append-nil (h .meaning v)))
+        ∙ unifier-meant h clause (c .head - c .start) (c .bodies) d q room short (fitted .more) (z .1) (itself v) ∙ append-nil (z .0 v)
+
+    module _ (grown : Size) (y : Grown heap cells (trail tables) count 4096 grown) (known : Known grown) where
+      least-of : (weight : Expr → ℕ) (most : ℕ) → ((v : ℕ) → weight (itself v) ≤ most) → ((i : ℕ) → i < count → weight (z .0 (getD (trail tables) i 0)) ≤ most) → (v : ℕ) → In-any v (F ∷ (G ++ A)) → weight (τ v) ≤ most
+      least-of weight most alone each v i = subst (λ e. weight e ≤ most) (inv (at-free v (held-free h v i))) (elim (fitted .undoable .trailed .kept v (held-low h v i)) [
+        | inl e ↦ subst (λ x. weight x ≤ most) (inv (z .1 .free v (e ∙ held-free h v i))) (alone v)
+        | inr (o, (j, l, under, e)) ↦ subst (λ x. weight (z .0 x) ≤ most) e (each j under)
+      ])
+
+      longest : (v : ℕ) → In-any v (F ∷ (G ++ A)) → length (τ v) ≤ grown .nodes
+      longest = least-of length (grown .nodes) (λ v. y .some) (λ i l. y .long known i l (z .0) (z .1))
+
+      widest : (v : ℕ) → In-any v (F ∷ (G ++ A)) → places (τ v) ≤ grown .variables
+      widest = least-of places (grown .variables) (λ v. y .one known) (λ i l. y .places known i l (z .0) (z .1))
+
+      goal-now : nodes (F ∷ G) ≤ s .nodes
+      goal-now = omega (arith, goal-sizes .0, h .goal-nodes)
+
+      answer-now : nodes A ≤ s .found
+      answer-now = omega (arith, goal-sizes .1, h .answer-nodes)
+
+      body-meant : map (apply (z .0)) (body-rows heap s c) ≡ map (apply τ) body
+      body-meant = ap (map (apply (z .0))) (body-is h clause c d q room short) ∙ on-clause h clause c d q room short fitted (d .body)
+
+      apart : map (apply τ) (body ++ G) ≡ map (apply τ) body ++ map (apply τ) G
+      apart = map-append (apply τ) body G
+
+      together : map (apply τ) (body ++ G) ++ map (apply τ) A ≡ map (apply τ) body ++ map (apply τ) (G ++ A)
+      together = ap (λ l. l ++ map (apply τ) A) apart ∙ append-assoc (map (apply τ) body) (map (apply τ) G) (map (apply τ) A) ∙ ap (λ l. map (apply τ) body ++ l) (inv (map-append (apply τ) G A))
+
+      body-flat : apply (z .0) (rows heap (c .bodies) (body-at s c)) ≡ flat (map (apply τ) body)
+      body-flat = ap (apply (z .0)) (inv (listed-flat heap (c .bodies) (body-at s c) (body-whole h clause c d q room short))) ∙ inv (flat-apply (z .0) (body-rows heap s c)) ∙ ap flat body-meant
+
+      abbrev first : ℕ
+      first = length (first-of (body-rows heap s c))
+
+      lead-is : length (first-of (map (apply (z .0)) (body-rows heap s c))) ≡ length (apply τ (rename past (first-of (d .body))))
+      lead-is = ap (λ l. length (first-of l)) body-meant ∙ ap length (first-map (apply τ) refl body ∙ ap (apply τ) (first-map (rename past) refl (d .body)))
+
+      lead-plain : first ≤ length (first-of (map (apply (z .0)) (body-rows heap s c)))
+      lead-plain = omega (arith, lead-is, first-long, rename-length past (first-of (d .body)), longer τ ((general h clause (c .head - c .start) (c .bodies) d q room short (fitted .more) (z .1)) .unifies .0) (rename past (first-of (d .body))))
+
+      lead-kept : Kept (heap-nodes (take (head-long c) clause)) (heap-nodes (take first (drop (head-long c) clause))) → head-long c < s .least → s .least - head-long c + first ≤ length (first-of (map (apply (z .0)) (body-rows heap s c)))
+      lead-kept kept under =
+          let k = subst (λ x. Kept x (first-of (d .body))) head-words (subst (Kept (heap-nodes (take (head-long c) clause))) (first-words first first-long) kept) in
+          omega (arith, lead-is, first-long, room-leading F G A (s .base) (held-low h) d τ (general h clause (c .head - c .start) (c .bodies) d q room short (fitted .more) (z .1)) (first-of (d .body)) k, h .leading, first-size, q .head, under)
+
+      module _ (more : Added) (r : Bounds) (sum : Summed s more grown r) (how : Thrifty-adds clause s c first more ⊎ Counted-adds heap cells s c first more) where
+        bare : Thrifty-adds clause s c first more → Thrifty (d .head) (flat (d .body))
+        bare t = subst (λ x. Thrifty x (flat (d .body))) head-words (subst (Thrifty (heap-nodes (take (head-long c) clause))) body-words (t .thrifty))
+
+        counted-nodes : Counted-adds heap cells s c first more → more .nodes ≡ nodes (map (apply τ) body)
+        counted-nodes k = k .nodes-are (sum .added-known) (z .0) (z .1) ∙ ap length body-flat ∙ flat-size (map (apply τ) body)
+
+        counted-places : Counted-adds heap cells s c first more → more .variables ≡ places-all (map (apply τ) body)
+        counted-places k = k .places-are (sum .added-known) (z .0) (z .1) ∙ ap places body-flat ∙ places-flat (map (apply τ) body)
+
+        goal-bound : nodes (map (apply τ) body ++ map (apply τ) G) ≤ r .nodes
+        goal-bound = elim how [
+          | inl t ↦ omega (arith, room-thrifty F G A (s .base) (held-low h) d τ (general h clause (c .head - c .start) (c .bodies) d q room short (fitted .more) (z .1)) (grown .nodes) (grown .variables) (s .nodes) (s .found) (s .variables) longest widest goal-now answer-now few-places (bare t), sum .nodes-are, t .nodes-are, t .less-is, q .head, head-length clause (c .head - c .start) (c .bodies) d q, clause-long, ordered .0, ordered .1)
+          | inr k ↦ omega (arith, room-counted F G A (s .base) (held-low h) d τ (general h clause (c .head - c .start) (c .bodies) d q room short (fitted .more) (z .1)) (grown .nodes) (grown .variables) (s .nodes) (s .found) (s .variables) longest widest goal-now answer-now few-places, sum .nodes-are, k .less-is, counted-nodes k)
+        ]
+
+        answer-bound : nodes (map (apply τ) A) ≤ r .found
+        answer-bound = omega (arith, room-answer F G A (s .base) (held-low h) d τ (general h clause (c .head - c .start) (c .bodies) d q room short (fitted .more) (z .1)) (grown .nodes) (grown .variables) (s .nodes) (s .found) (s .variables) longest widest goal-now answer-now few-places, sum .found-is)
+
+        places-bound : places-all (map (apply τ) body ++ map (apply τ) (G ++ A)) ≤ r .variables
+        places-bound = elim (sum .spread) [
+          | inl e ↦ elim how [
+            | inl t ↦ omega (arith, places-thrifty F G A (s .base) (held-low h) d τ (general h clause (c .head - c .start) (c .bodies) d q room short (fitted .more) (z .1)) (grown .nodes) (grown .variables) (s .nodes) (s .found) (s .variables) longest widest goal-now answer-now few-places (bare t), e, t .fresh-is ∙ ap₂ fresh head-words body-words)
+            | inr k ↦ omega (arith, places-counted F G A (s .base) (held-low h) d τ (general h clause (c .head - c .start) (c .bodies) d q room short (fitted .more) (z .1)) (grown .nodes) (grown .variables) (s .nodes) (s .found) (s .variables) longest widest goal-now answer-now few-places, e, counted-places k)
+          ]
+          | inr e ↦ omega (arith, ap places-all together, places-all-few (map (apply τ) (body ++ G) ++ map (apply τ) A), nodes-append (map (apply τ) (body ++ G)) (map (apply τ) A), ap nodes apart, goal-bound, answer-bound, e)
+        ]
+
+        lead-bound : r .least ≤ length (first-of (map (apply (z .0)) (body-rows heap s c)))
+        lead-bound = elim how [
+          | inl t ↦ elim (t .leads) [ inl e ↦ omega (arith, sum .least-is, e, lead-plain) | inr (kept, under, e) ↦ omega (arith, sum .least-is, e, lead-kept kept under) ]
+          | inr k ↦ omega (arith, sum .least-is, k .leads, lead-plain)
+        ]
+
+        pub bounded-so : Fits (more .names) clause → more .names ≤ 64 → Bounded heap cells levels s c r
+        bounded-so fit few = record {
+          goal-nodes = λ θ y. subst (λ l. nodes l ≤ r .nodes) (inv (any θ y (next-rows heap levels s c) ∙ goal-meant h clause c d q room short fitted ∙ apart)) goal-bound;
+          answer-nodes = λ θ y. subst (λ l. nodes l ≤ r .found) (inv (any θ y (answer-rows heap s) ∙ next-meant h clause c d q room short fitted)) answer-bound;
+          places = λ θ y. subst (λ l. places-all l ≤ r .variables) (inv (any θ y (next-rows heap levels s c ++ answer-rows heap s) ∙ all-meant h clause c d q room short fitted ∙ together)) places-bound;
+          leading = λ θ y. subst (λ l. r .least ≤ length (first-of l)) (inv (any θ y (body-rows heap s c))) lead-bound;
+          below = subst (λ n. Fits (s .base + n) heap) (inv (sum .names-are)) (whole-fits h clause (c .head - c .start) (c .bodies) d q room short (more .names) few fit);
+          few = omega (arith, sum .names-are, few);
+          goal-room = sum .goal-room;
+          answer-room = sum .answer-room;
+          places-room = omega (arith, sum .few, sum .goal-room, sum .answer-room);
+        }
+          where
+            any : (θ : Subst) → Solved heap cells θ → (l : Goal) → map (apply θ) l ≡ map (apply (z .0)) l
+            any θ y l = map-same (λ e. apply-on θ (z .0) e (λ v i. solved-one (fitted .more .made) (z .1) θ y v)) l
+
+-- of the heap that is under way
+module _ {book words before levels : List ℕ} {s : Standing} {c : Span} {heap′ cells tables : List ℕ} {count : ℕ} {f : Expr} {g a : Goal} {d : Clause} (u : Under-way book words before levels s c heap′ cells tables count f g a d) where
+  words-long : length (span-words book c) ≡ c .end - c .start
+  words-long = length-take-le (c .end - c .start) (drop (c .start) book) (omega (arith, length-drop (c .start) book, u .placed .within))
+
+  pub first-within : head-long c + length (first-of (body-rows heap′ s c)) ≤ length (span-words book c)
+  first-within = subst (λ l. head-long c + length (first-of (body-rows l s c)) ≤ length (span-words book c)) (inv (u .is)) (first-fits (u .held) (span-words book c) c d (u .placed .clause) (u .room) (heap-short u) words-long (u .placed .begins, u .placed .ends))
+
+  pub bounds-hold : (grown : Size) → Grown heap′ cells (trail tables) count 4096 grown → (more : Added) → Adds (span-words book c) heap′ cells s c (length (first-of (body-rows heap′ s c))) more → (r : Bounds) → Summed s more grown r → Bounded heap′ cells levels s c r
+  bounds-hold grown y more x r sum =
+      subst (λ l. Bounded l cells levels s c r) (inv (u .is))
+      (core (subst (λ l. Fitted l before s cells tables count) (u .is) (u .fitted)) (subst (λ l. Grown l cells (trail tables) count 4096 grown) (u .is) y) (subst (λ l. Adds (span-words book c) l cells s c (length (first-of (body-rows l s c))) more) (u .is) x))
+    where
+      core : Fitted (laid (used words s) (s .base) (span-words book c)) before s cells tables count → Grown (laid (used words s) (s .base) (span-words book c)) cells (trail tables) count 4096 grown
+          → Adds (span-words book c) (laid (used words s) (s .base) (span-words book c)) cells s c (length (first-of (body-rows (laid (used words s) (s .base) (span-words book c)) s c))) more → Bounded (laid (used words s) (s .base) (span-words book c)) cells levels s c r
+      core fitted y x = bounded-so (u .held) (span-words book c) c d (u .placed .clause) (u .room) (heap-short u) words-long (u .placed .begins, u .placed .ends) fitted grown y (sum .grown-known) more r sum (x .how) (x .names) (x .few)

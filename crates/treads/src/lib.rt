@@ -1,0 +1,174 @@
+// A step that leaves goal and answer on the heap: the first clause that fits, found by trials, and its body in the place of the first formula; where it is not sure that
+// the next goal and answer have room, or what the clauses say, no step.
+use crate::sizing::Span;
+use crate::sizing::sized;
+use crate::testing::Found;
+use crate::testing::first_fit;
+use crate::testing::release;
+use bounds::OVER;
+use heap::past;
+use heap::walking::Walk;
+use heap::walking::settled;
+use heapgoals::Standing;
+use words::shelf::BODY;
+use words::shelf::HEAD;
+use words::shelf::START;
+use words::shelf::entry;
+ghost use mathlib.Core.Path.{_≡_};
+ghost use mathlib.Core.Bool.{Bool, true};
+ghost use mathlib.Core.List.{List, _∷_};
+ghost use Prim.Native.Nat.{ℕ, _+_, _<_, _≤_};
+ghost use lib.ListN.{length};
+ghost use Rattle.terms.specs.Node.{Expr};
+ghost use Rattle.search.specs.Next.{Clause, Book, Goal, clause-at};
+ghost use Rattle.words.specs.Word.{Valids};
+ghost use Rattle.words.specs.Columns.{CELLS, WORDS};
+ghost use Rattle.words.specs.Held.{Placed, BookOn};
+ghost use Rattle.heap.specs.Heap.{Whole};
+ghost use Rattle.heap.specs.Walking.{Levels};
+ghost use Rattle.heapgoals.specs.Holding.{Holds};
+ghost use Rattle.trials.specs.Trying.{clause-words};
+ghost use Rattle.treads.specs.Adding.{span-words};
+ghost use Rattle.treads.specs.Stepping.{Under-way, Entered, Went, Treads};
+
+pub mod testing; // a clause put behind what is held, and tried
+pub mod sizing; // how large goal and answer are at most
+
+// The k rows of a body in the place of the first formula.
+fn entered(heap: &[u32], levels: &mut [u16], s: Standing, body: usize, k: usize) -> Walk
+    requires { ⌜ Valids (now heap) × (length (now heap) < 65536) × Whole (now heap) (s .due) (s .at) × (0 < s .due) × Whole (now heap) k body ⌝ }
+    requires { ⌜ Levels (now heap) (now levels) (s .depth) × (s .depth < 256) × (length (now levels) ≡ 1028) ⌝ }
+    ensures { λ w. ⌜ Entered (now (heap .entry)) (now (levels .entry)) s body k (now (levels .exit)) w ⌝ }
+{
+    let rest = past(heap, s.at);
+    let due = s.due - 1;
+    let depth = s.depth;
+    if k == 0 {
+        return settled(
+            levels,
+            Walk {
+                at: rest,
+                due,
+                depth,
+            },
+        );
+    }
+    if due == 0 {
+        return Walk {
+            at: body,
+            due: k,
+            depth,
+        };
+    }
+    levels[2 * depth] = rest as u16;
+    levels[2 * depth + 1] = due as u16;
+    Walk {
+        at: body,
+        due: k,
+        depth: depth + 1,
+    }
+}
+
+pub enum Tread {
+    Stays,
+    Goes(Standing),
+}
+
+// By the clause at c, whose trial the heap holds, with so many goal variables bound.
+fn go(
+    book: &[u32],
+    heap: &[u32],
+    cells: &[u16],
+    rows: &[u16],
+    levels: &mut [u16],
+    s: Standing,
+    c: Span,
+    count: usize,
+) -> Tread
+    requires { ⌜ ((words : List ℕ) × (before : List ℕ) × (f : Expr) × (g : Goal) × (a : Goal) × (d : Clause) × Under-way (now book) words before (now levels) s c (now heap) (now cells) (now rows) count f g a d) × (length (now rows) ≡ CELLS) × (s .depth < 256) ⌝ }
+    ensures { λ r. ⌜ Went (now (book .entry)) (now (levels .entry)) s c (now (heap .entry)) (now (cells .entry)) (now (rows .entry)) count (now (levels .exit)) r ⌝ }
+{
+    let formulas = s.formulas - 1 + c.bodies;
+    if 512 < formulas {
+        return Tread::Stays;
+    }
+    let size = sized(book, heap, cells, rows, levels, s, c, count);
+    if size.nodes == OVER {
+        return Tread::Stays;
+    }
+    let body = s.top + (c.head - c.start);
+    let w = entered(heap, levels, s, body, c.bodies);
+    Tread::Goes(Standing {
+        at: w.at,
+        due: w.due,
+        depth: w.depth,
+        formulas,
+        answer: s.answer,
+        answers: s.answers,
+        top: heap.len(),
+        base: s.base + size.names,
+        nodes: size.nodes,
+        found: size.found,
+        variables: size.variables,
+        least: size.least,
+    })
+}
+
+fn clause_at(shelf: &[u16], i: usize) -> Span
+    requires { ⌜ ((book : List ℕ) × (P : Book) × BookOn book (now shelf) P × (i < length P)) ⌝ }
+    ensures { λ r. ⌜ ((book : List ℕ) (P : Book) → BookOn book (now (shelf .entry)) P → i < length P → Placed book (r .start) (r .head) (r .end) (r .bodies) (clause-at P i) × (span-words book r ≡ clause-words book (now (shelf .entry)) (length P) i)) ⌝ }
+{
+    Span {
+        start: entry(shelf, START, i),
+        head: entry(shelf, HEAD, i),
+        end: entry(shelf, START, i + 1),
+        bodies: entry(shelf, BODY, i),
+    }
+}
+
+// Whether there is room for a clause, its variables and a level.
+fn has_room(s: Standing, length: usize) -> bool
+    requires { ⌜ s .top < 65536 ⌝ }
+    ensures { λ r. ⌜ (r ≡ true → (s .base ≤ 8192) × (s .top + 256 ≤ length) × (s .depth < 256)) ⌝ }
+{
+    if 8192 < s.base {
+        return false;
+    }
+    if length < s.top + 256 {
+        return false;
+    }
+    s.depth < 256
+}
+
+pub fn take_step(
+    book: &[u32],
+    shelf: &[u16],
+    words: &mut [u32],
+    cells: &mut [u16],
+    rows: &mut [u16],
+    levels: &mut [u16],
+    stack: &mut [u16],
+    s: Standing,
+) -> Tread
+    requires { ⌜ (length (now words) ≤ WORDS) × (length (now rows) ≡ CELLS) × (length (now stack) ≡ 387) ⌝ }
+    requires { ⌜ ((P : Book) × (f : Expr) × (g : Goal) × (a : Goal) × BookOn (now book) (now shelf) P × Holds (now words) (now cells) (now levels) s (f ∷ g) a) ⌝ }
+    ensures { λ r. ⌜ ((P : Book) (f : Expr) (g a : Goal) → BookOn (now (book .entry)) (now (shelf .entry)) P → Holds (now (words .entry)) (now (cells .entry)) (now (levels .entry)) s (f ∷ g) a → Treads P f g a (now (words .exit)) (now (cells .exit)) (now (levels .exit)) s r) ⌝ }
+{
+    if !has_room(s, words.len()) {
+        return Tread::Stays;
+    }
+    match first_fit(book, shelf, words, cells, rows, levels, stack, s) {
+        Found::Unsure => Tread::Stays,
+        Found::Clause(i, count) => {
+            let c = clause_at(shelf, i);
+            let end = s.top + (c.end - c.start);
+            match go(book, &words[0..end], cells, rows, levels, s, c, count) {
+                Tread::Goes(next) => Tread::Goes(next),
+                Tread::Stays => {
+                    release(cells, rows, s.base, count);
+                    Tread::Stays
+                }
+            }
+        }
+    }
+}
