@@ -1,11 +1,11 @@
 -- Two rows made equal, pair by pair.
-use Prim.Native.Nat.{ℕ, suc, _+_, _-_, _<_, _≤_}
+use Prim.Native.Nat.{ℕ, _+_, _-_, _<_, _≤_}
 use native.Mathlib.Omega.{arith}
-use mathlib.Core.Path.{_≡_, refl, sym as inv, ap, _∙_, subst}
+use mathlib.Core.Path.{_≡_, refl, sym as inv, _∙_, subst}
 use mathlib.Core.Logic.{_↔_, inl, inr}
 use mathlib.Core.List.{List}
 use lib.ListN.{length}
-use Rattle.terms.specs.Subst.{In, Subst, apply, itself}
+use Rattle.terms.specs.Subst.{In, Subst, itself}
 use Rattle.terms.specs.SubstLaws.{in-apply}
 use Rattle.heap.specs.Heap.{rows, Whole, bound, Made, Solves, Solved}
 use Rattle.heap.specs.HeapLaws.{rows-few}
@@ -14,7 +14,7 @@ use Rattle.matching.specs.Meeting.{Equal}
 use Rattle.matching.specs.Binding.{Trailed, trail-none}
 use Rattle.matching.specs.Pairs.{Equal-levels, Equal-all, Due, Behind, Settled, Entered}
 use Rattle.matching.specs.PairLaws.{none-due, first-row-whole}
-use Rattle.matching.specs.Unifying.{Unmixed, Begun, Unseen, More, Kept-up, Stepped, Trail-kept, Unified}
+use Rattle.matching.specs.Unifying.{Unmixed, Begun, Unseen, Stepped, Trail-kept, Unified}
 use Rattle.matching.specs.UnseenLaws.{unseen as more-unseen}
 use Rattle.matching.specs.declared.pairs.Pairs.{Pairs}
 use Rattle.matching.specs.declared.unifying.Trial.{Trial}

@@ -1,5 +1,5 @@
 -- How large the next goal and answer are at most.
-use Prim.Native.Nat.{ℕ, zero, suc, _+_, _*_, _-_, _<_, _≤_}
+use Prim.Native.Nat.{ℕ, _+_, _-_, _<_, _≤_}
 use native.Mathlib.Omega.{arith}
 use mathlib.Core.Path.{_≡_, refl, sym as inv, ap, ap₂, _∙_, subst}
 use mathlib.Core.Logic.{_⊎_, inl, inr}
@@ -10,7 +10,6 @@ use Rattle.terms.specs.Node.{var, sym, Expr}
 use Rattle.terms.specs.Subst.{In-any, Subst, Proper, apply, itself}
 use Rattle.terms.specs.SubstLaws.{apply-on, map-same}
 use Rattle.terms.specs.Rename.{rename}
-use Rattle.terms.specs.Number.{number-all}
 use Rattle.terms.specs.NumberLaws.{number-length}
 use Rattle.search.specs.Next.{Clause, Goal}
 use Rattle.search.specs.Room.{nodes}
@@ -19,19 +18,17 @@ use Rattle.words.specs.WordLaws.{nodes-take, nodes-drop}
 use Rattle.words.specs.Flat.{flat, flat-apply, flat-size}
 use Rattle.words.specs.Held.{ClauseIn}
 use Rattle.words.specs.HeldLaws.{head-length}
-use Rattle.picking.specs.Laying.{moved}
-use Rattle.heap.specs.Heap.{rows, Whole, bound, Solved}
+use Rattle.heap.specs.Heap.{rows, bound, Solved}
 use Rattle.heap.specs.SolvedLaws.{solved-one}
-use Rattle.matching.specs.Binding.{Trailed}
 use Rattle.trials.specs.Trying.{trail}
 use Rattle.bounds.specs.Places.{places, places-all}
 use Rattle.bounds.specs.Thrift.{fresh, Thrifty, Kept}
 use Rattle.bounds.specs.Sizing.{Known, Grown}
-use Rattle.bounds.specs.WeighLaws.{gain, length-apply}
-use Rattle.bounds.specs.GoalLaws.{nodes-append, places-flat, places-all-append, places-all-number, numbered-nodes}
+use Rattle.bounds.specs.WeighLaws.{length-apply}
+use Rattle.bounds.specs.GoalLaws.{nodes-append, places-flat, places-all-number, numbered-nodes}
 use Rattle.bounds.specs.RoomLaws.{room-leading, room-thrifty, places-thrifty, room-counted, places-counted, room-answer}
 use Rattle.bounds.specs.declared.Size.{Size}
-use Rattle.heapgoals.specs.Holding.{listed, answer-rows, used, Holds}
+use Rattle.heapgoals.specs.Holding.{answer-rows, used, Holds}
 use Rattle.heapgoals.specs.ListLaws.{listed-flat}
 use Rattle.heapgoals.specs.HoldLaws.{rest-rows, held-rows, held-first, first-meant, rest-meant, answer-meant, held-all, held-low, held-free}
 use Rattle.heapgoals.specs.declared.Standing.{Standing}
@@ -41,8 +38,10 @@ use Rattle.treads.specs.Adding.{span-words, head-long, Thrifty-adds, Cou
 use Rattle.treads.specs.declared.sizing.Span.{Span}
 use Rattle.treads.specs.declared.sizing.Added.{Added}
 use Rattle.treads.specs.declared.sizing.Bounds.{Bounds}
+use Rattle.treads.proofs.Extending.{rename-length}
 use Rattle.treads.proofs.Laying.{whole-fits, unifier-meant, general}
-use Rattle.treads.proofs.Nexts.{body-is, body-whole, found, σ, on-clause, goal-meant, next-meant, all-meant, heap-short}
+use Rattle.treads.proofs.Nexts.{body-is, body-whole, found, σ, on-clause, goal-meant, next-meant, all-meant}
+use Rattle.treads.proofs.Going.{heap-short}
 
 places-few : (e : Expr) → places e ≤ length e
 places-few [] = omega arith
@@ -64,11 +63,6 @@ first-flat (f ∷ g) = (flat g, refl)
 
 longer : (θ : Subst) → Proper θ → (e : Expr) → length e ≤ length (apply θ e)
 longer θ ok e = omega (arith, length-apply θ ok e)
-
-rename-length : (ρ : ℕ → ℕ) (e : Expr) → length (rename ρ e) ≡ length e
-rename-length ρ [] = refl
-rename-length ρ (var v ∷ e) = ap suc (rename-length ρ e)
-rename-length ρ (sym s ∷ e) = ap suc (rename-length ρ e)
 
 module _ {words before levels : List ℕ} {s : Standing} {f : Expr} {g a : Goal} (h : Holds words before levels s (f ∷ g) a) (clause : List ℕ) (c : Span) (d : Clause) (q : ClauseIn clause (c .head - c .start) (c .bodies) d) (room : s .base ≤ 8192) (short : s .top + length clause < 65536)
     (clause-long : length clause ≡ c .end - c .start) (ordered : (c .start < c .head) × (c .head ≤ c .end)) where

@@ -3,12 +3,12 @@ use Prim.Native.Nat.{ℕ, zero, suc, _+_, _*_, _-_, _<_, _≤_}
 use native.Mathlib.Omega.{arith}
 use native.Mathlib.Decide.{decLt}
 use mathlib.Core.Path.{_≡_, refl, sym as inv, ap, ap₂, _∙_, subst}
-use mathlib.Core.List.{List, [], _∷_, _++_}
+use mathlib.Core.List.{List, _++_}
 use lib.ListN.{length, getD, set, length-set}
 use lib.Seq.{getD-set-same, getD-set-other}
 use Rattle.heap.specs.Heap.{rows, Whole}
-use Rattle.heap.specs.Walking.{level-at, level-due, Levels, Ready, settled, settled-at}
-use Rattle.heap.specs.HeapLaws.{first-whole, rest-whole, rows-few}
+use Rattle.heap.specs.Walking.{level-at, level-due, Levels, settled, settled-at}
+use Rattle.heap.specs.HeapLaws.{first-whole, rest-whole}
 use Rattle.heap.specs.WalkLaws.{settled-ready}
 use Rattle.heap.specs.declared.walking.Walk.{Walk}
 use Rattle.heapgoals.specs.Holding.{listed, waiting}

@@ -1,11 +1,12 @@
 -- A heap that is a part of a longer one: its rows are the same there, and so is what they stand for.
-use Prim.Native.Nat.{ℕ, zero, suc, _+_, _-_, _<_, _≤_}
+use Prim.Native.Nat.{ℕ, zero, suc, _+_, _-_, _<_}
 use native.Mathlib.Omega.{arith}
 use mathlib.Core.Path.{_≡_, refl, sym as inv, ap, ap₂, _∙_, subst}
-use mathlib.Core.List.{List, [], _∷_, _++_, map, map-append, append-assoc}
-use lib.ListN.{length, getD, take, drop, length-append, length-map, take-append-drop, List·getD-append}
+use mathlib.Core.List.{List, [], _∷_, _++_, map-append, append-assoc}
+use lib.ListN.{length, take, drop, length-append, length-map, take-append-drop, List·getD-append}
 use lib.Seq.{drop-append-le}
-use Rattle.terms.specs.Node.{Expr}
+use Rattle.terms.specs.Node.{var, sym, Expr}
+use Rattle.terms.specs.Rename.{rename}
 use Rattle.terms.specs.Row.{Row, span, Formulas}
 use Rattle.terms.specs.RowLaws.{first-row}
 use Rattle.terms.specs.Subst.{Subst, apply}
@@ -13,7 +14,7 @@ use Rattle.terms.specs.Argument.{firsts}
 use Rattle.search.specs.Next.{Goal}
 use Rattle.words.specs.Word.{kindOf, Fits, node, nodes}
 use Rattle.words.specs.Flat.{flat}
-use Rattle.heap.specs.Heap.{rows, Whole, bound, Made, Solves, Solved}
+use Rattle.heap.specs.Heap.{rows, Whole, Made, Solves, Solved}
 use Rattle.heap.specs.HeapLaws.{rows-none, row-inside, first-whole, rest-whole}
 use Rattle.heap.specs.Walking.{level-at, level-due, Levels}
 use Rattle.heapgoals.specs.Holding.{listed, waiting}
@@ -72,3 +73,12 @@ listed-here heap x (f ∷ g) z (suc k) p is r e at =
     let here = piece heap x f (flat g ++ z) (is ∙ ap (λ y. x ++ y) (append-assoc f (flat g) z)) 1 p (r .0) at in
     ap₂ _∷_ here (ap (λ y. listed heap k (p + length y)) here
     ∙ listed-here heap (x ++ f) g z k (p + length f) (is ∙ ap (λ y. x ++ y) (append-assoc f (flat g) z) ∙ inv (append-assoc x f (flat g ++ z))) (r .1) (omega (arith, e)) (omega (arith, at, length-append x f)))
+
+-- a part from the front on, as it is lent
+pub part-front : (m : ℕ) (l : List ℕ) → take (m - 0) (drop 0 l) ≡ take m l
+part-front m l = let n : m - 0 ≡ m = omega arith in ap (λ n. take n l) n
+
+pub rename-length : (ρ : ℕ → ℕ) (e : Expr) → length (rename ρ e) ≡ length e
+rename-length ρ [] = refl
+rename-length ρ (var v ∷ e) = ap suc (rename-length ρ e)
+rename-length ρ (sym s ∷ e) = ap suc (rename-length ρ e)

@@ -1,7 +1,7 @@
 -- A clause laid behind what is held: the trial's start, and what the trial says of the clause.
-use Prim.Native.Nat.{ℕ, zero, suc, _+_, _-_, _<_, _≤_}
+use Prim.Native.Nat.{ℕ, _+_, _-_, _<_, _≤_}
 use native.Mathlib.Omega.{arith}
-use mathlib.Core.Path.{_≡_, refl, sym as inv, ap, ap₂, _∙_, subst}
+use mathlib.Core.Path.{_≡_, sym as inv, ap, ap₂, _∙_, subst}
 use mathlib.Core.Logic.{inl, inr}
 use mathlib.Core.List.{List, [], _∷_, _++_, map, map-append, append-nil, head-eq-of-cons-eq}
 use lib.ListN.{length, getD, take, drop, length-append, length-map}
@@ -9,12 +9,12 @@ use lib.Seq.{length-take-le, take-at, take-take, getD-take}
 use Rattle.terms.specs.Node.{Expr}
 use Rattle.terms.specs.Row.{Row}
 use Rattle.terms.specs.RowLaws.{row-long}
-use Rattle.terms.specs.Subst.{In, In-any, Subst, Proper, apply, after, itself, Unifies, MostGeneral}
+use Rattle.terms.specs.Subst.{In, In-any, Subst, apply, after, itself, Unifies, MostGeneral}
 use Rattle.terms.specs.SubstLaws.{apply-on, apply-after, apply-itself, apply-row, in-apply}
 use Rattle.terms.specs.Rename.{rename, Apart}
 use Rattle.terms.specs.RenameLaws.{rename-row, rename-apply}
 use Rattle.terms.specs.Argument.{firsts}
-use Rattle.search.specs.Next.{Clause, Goal, Meets, Resolved}
+use Rattle.search.specs.Next.{Clause, Goal, Meets}
 use Rattle.search.specs.NextLaws.{carried}
 use Rattle.words.specs.Word.{kindOf, Plain, Valids, Fit, Fits, node, nodes}
 use Rattle.words.specs.HeldLaws.{headed, head-length, head-in, first-kind}
@@ -29,18 +29,15 @@ use Rattle.matching.specs.Meeting.{Equal}
 use Rattle.matching.specs.Unifying.{More}
 use Rattle.trials.proofs.Heaps.{in-rows, piece, piece-whole}
 use Rattle.paths.specs.Binding.{newly, newly-general, newly-meant}
-use Rattle.paths.specs.Naming.{α, past, stood, near, held-step}
+use Rattle.paths.specs.Naming.{α, stood, near}
 use Rattle.heapgoals.specs.Holding.{used, Holds}
 use Rattle.heapgoals.specs.HoldLaws.{held-row, held-first, first-meant, rest-meant, answer-meant, held-all, held-low}
 use Rattle.heapgoals.specs.declared.Standing.{Standing}
-use Rattle.treads.specs.Trying.{laid, Set-up, Fitted, Attempted, Told, Held-trial, Tested}
+use Rattle.treads.specs.Trying.{laid, Set-up, Attempted, Told, Tested}
 use Rattle.treads.specs.declared.testing.Attempt.{Attempt}
 use Rattle.treads.specs.declared.testing.Attempt.the-variants.{Fits as Fits-now, Clash, Tired}
-use Rattle.treads.proofs.Extending.{same-rows, still-whole, still-made, still-solved}
+use Rattle.treads.proofs.Extending.{part-front, same-rows, still-whole, still-made, still-solved}
 use Rattle.treads.proofs.Telling.{told-none}
-
-part-front : (m : ℕ) (l : List ℕ) → take (m - 0) (drop 0 l) ≡ take m l
-part-front m l = let n : m - 0 ≡ m = omega arith in ap (λ n. take n l) n
 
 -- variables from `base` on
 in-past : (base : ℕ) (e : Expr) (v : ℕ) → In v (rename (λ x. x + base) e) → base ≤ v

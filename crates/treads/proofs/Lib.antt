@@ -6,6 +6,7 @@ mod Laying
 mod Seeking
 mod Entering
 mod Nexts
+mod Going
 mod Treading
 mod Summing
 mod Bounding

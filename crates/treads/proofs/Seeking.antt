@@ -2,14 +2,14 @@
 use Prim.Native.Nat.{ℕ, suc, _+_, _-_, _<_, _≤_}
 use native.Mathlib.Omega.{arith}
 use mathlib.Core.Path.{_≡_, refl, sym as inv, ap, _∙_, subst}
-use mathlib.Core.List.{List, [], _∷_}
+use mathlib.Core.List.{List, _∷_}
 use lib.ListN.{length, getD, take, drop}
 use lib.Seq.{getD-take, length-take-le}
 use Rattle.terms.specs.Node.{Expr}
 use Rattle.search.specs.Next.{Clause, Book, Goal, Meets, clause-at}
 use Rattle.words.specs.Word.{kindOf}
 use Rattle.words.specs.Columns.{every}
-use Rattle.words.specs.Held.{ClauseIn, Placed, BookOn, starts, heads, bodies}
+use Rattle.words.specs.Held.{Placed, BookOn, bodies}
 use Rattle.words.specs.Lists.{head-word, Found}
 use Rattle.picking.proofs.Picks.{Passed, passed-more, picked-here, head-first}
 use Rattle.heap.specs.HeapLaws.{row-inside}

@@ -1,14 +1,13 @@
 -- Small laws of the sums.
-use Prim.Native.Nat.{ℕ, zero, suc, _+_, _*_, _-_, _<_, _≤_}
+use Prim.Native.Nat.{ℕ, zero, suc, _+_, _*_, _-_, _≤_}
 use native.Mathlib.Omega.{arith}
 use native.Mathlib.Nat.{mul-le-mul-right}
 use native.Mathlib.Decide.{ℕ-discrete}
-use mathlib.Core.Path.{_≡_, refl, sym as inv, ap, _∙_, subst}
+use mathlib.Core.Path.{_≡_, refl, ap, _∙_, subst}
 use mathlib.Core.Logic.{inl, inr}
-use mathlib.Core.Bool.{true}
-use mathlib.Core.List.{List, [], _∷_}
+use mathlib.Core.List.{List}
 use lib.ListN.{length, take, drop}
-use Rattle.words.specs.Word.{Fits, nodes}
+use Rattle.words.specs.Word.{nodes}
 use Rattle.heap.specs.Heap.{rows}
 use Rattle.bounds.specs.Thrift.{Kept}
 use Rattle.bounds.specs.Tally.{Thrifts}
@@ -16,9 +15,8 @@ use Rattle.bounds.specs.declared.clauses.Thrift.{Thrift}
 use Rattle.heapgoals.specs.Holding.{listed}
 use Rattle.heapgoals.specs.declared.Standing.{Standing}
 use Rattle.treads.specs.Stepping.{first-of}
-use Rattle.treads.specs.Adding.{head-long, Led, Thrifty-adds, Adds}
+use Rattle.treads.specs.Adding.{head-long, Led, Thrifty-adds}
 use Rattle.treads.specs.declared.sizing.Span.{Span}
-use Rattle.treads.specs.declared.sizing.Added.{Added}
 
 pub few-product : (a b : ℕ) → a ≤ 8192 → b ≤ 65535 → a * b ≤ 536862720
 few-product a b l h = omega (arith, mul-le-mul-right {m = a} {n = 8192} b l, h)

@@ -1,5 +1,5 @@
 -- What the first words of a formula on the heap and of a head say of whether they meet.
-use Prim.Native.Nat.{ℕ, zero, suc, _+_, _-_, _<_, _≤_}
+use Prim.Native.Nat.{ℕ, suc, _+_, _-_, _<_, _≤_}
 use native.Mathlib.Omega.{arith}
 use native.Mathlib.Decide.{decLt}
 use mathlib.Core.Path.{_≡_, refl, sym as inv, ap, ap₂, _∙_, subst}
@@ -7,9 +7,9 @@ use borrow.Author.Tests.{eq-eqb}
 use mathlib.Core.Bool.{not, true, false}
 use mathlib.Core.List.{List, [], _∷_, _++_, append-nil}
 use lib.Dec.{eqb}
-use lib.ListN.{length, getD, take, drop, length-map}
-use Rattle.terms.specs.Node.{Symbol, var, sym, Expr}
-use Rattle.terms.specs.Row.{Row, span}
+use lib.ListN.{length, getD}
+use Rattle.terms.specs.Node.{Expr}
+use Rattle.terms.specs.Row.{Row}
 use Rattle.terms.specs.RowLaws.{first-row}
 use Rattle.terms.specs.Subst.{Subst, apply}
 use Rattle.terms.specs.SubstLaws.{apply-append}
@@ -23,7 +23,7 @@ use Rattle.words.specs.WordLaws.{node-sym}
 use Rattle.words.specs.PackLaws.{node-inj}
 use Rattle.words.specs.Held.{ClauseIn, BookOn, starts, heads}
 use Rattle.words.specs.HeldLaws.{headed, first-kind}
-use Rattle.words.specs.Lists.{head-word, Found}
+use Rattle.words.specs.Lists.{Found}
 use Rattle.picking.specs.Picking.{head-at}
 use Rattle.picking.proofs.Picks.{Passed, head-here, head-first}
 use Rattle.heap.specs.Heap.{rows, Whole, Made, Solves}

@@ -1,18 +1,17 @@
 -- One step, from the clause that is found to what is held after it.
-use Prim.Native.Nat.{ℕ, suc, _+_, _-_, _<_, _≤_}
+use Prim.Native.Nat.{ℕ, _+_, _-_, _<_, _≤_}
 use native.Mathlib.Omega.{arith}
 use mathlib.Core.Path.{_≡_, refl, sym as inv, ap, _∙_, subst}
 use mathlib.Core.Bool.{Bool, not, true, false}
 use mathlib.Core.Option.{some}
 use mathlib.Core.List.{List, [], _∷_, _++_}
 use lib.ListN.{length, take, drop, length-drop}
-use lib.Seq.{length-take-le, take-length, take-take}
+use lib.Seq.{length-take-le, take-take}
 use Rattle.terms.specs.Node.{Expr}
 use Rattle.terms.specs.Row.{Row, Every, Formulas}
 use Rattle.search.specs.Next.{Clause, Book, Goal, First, Resolved, clause-at}
 use Rattle.search.specs.NextLaws.{next-iff}
 use Rattle.search.specs.Step.{to, next, goal-of, next-goal}
-use Rattle.search.specs.Room.{fits}
 use Rattle.search.specs.Answer.{small, next-answer}
 use Rattle.search.specs.AnswerLaws.{last-behind}
 use Rattle.words.specs.Held.{Placed, BookOn}
@@ -23,15 +22,13 @@ use Rattle.trials.specs.Trying.{clause-words}
 use Rattle.heapgoals.specs.Holding.{used, Holds}
 use Rattle.heapgoals.specs.HoldLaws.{Fore, holds-levels, holds-words}
 use Rattle.heapgoals.specs.declared.Standing.{Standing}
-use Rattle.treads.specs.Trying.{laid, Fitted, Held-trial, Sought}
+use Rattle.treads.specs.Trying.{laid, Fitted, Sought}
 use Rattle.treads.specs.Stepping.{Under-way, Went, Treads}
 use Rattle.treads.specs.Adding.{span-words}
 use Rattle.treads.specs.declared.sizing.Span.{Span}
-use Rattle.treads.specs.declared.Tread.the-variants.{Stays, Goes}
+use Rattle.treads.specs.declared.Tread.the-variants.{Goes}
 use Rattle.treads.specs.declared.testing.Found.the-variants as Seen
-
-part-front : (m : ℕ) (l : List ℕ) → take (m - 0) (drop 0 l) ≡ take m l
-part-front m l = let n : m - 0 ≡ m = omega arith in ap (λ n. take n l) n
+use Rattle.treads.proofs.Extending.{part-front}
 
 every-front : (Q : Expr → Type 0) (g a : Goal) → Every Q (g ++ a) → Every Q g
 every-front Q [] a p = tt

@@ -1,15 +1,14 @@
 -- How a trial begins, and how it is undone.
-use Prim.Native.Nat.{ℕ, suc, _+_, _-_, _<_, _≤_}
+use Prim.Native.Nat.{ℕ, _+_, _-_, _<_, _≤_}
 use native.Mathlib.Omega.{arith}
 use native.Mathlib.Decide.{decLt}
 use mathlib.Core.Path.{_≡_, refl, sym as inv, ap, _∙_, subst}
 use mathlib.Core.Logic.{inl, inr}
 use mathlib.Core.List.{List, _++_}
-use lib.ListN.{length, getD, take, drop, length-drop, List·getD-append}
+use lib.ListN.{length, take, drop, length-drop, List·getD-append}
 use lib.Seq.{ext-getD, getD-take, length-take-le, take-at, drop-at}
 use borrow.Rule.Slice.PartMut.{putMid, same-len-mid}
-use Rattle.terms.specs.Subst.{Subst}
-use Rattle.heap.specs.Heap.{bound, Solved}
+use Rattle.heap.specs.Heap.{bound}
 use Rattle.matching.specs.Binding.{Trailed, trail-none}
 use Rattle.matching.specs.Unifying.{Begun, Unseen, Trail-kept}
 use Rattle.matching.specs.declared.unifying.Trial.{Trial}

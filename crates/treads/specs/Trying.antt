@@ -2,10 +2,10 @@
 use Prim.Native.Nat.{ℕ, suc, _+_, _<_, _≤_}
 use mathlib.Core.Path.{_≡_}
 use mathlib.Core.List.{List, _∷_, _++_, map}
-use lib.ListN.{length, getD, take}
+use lib.ListN.{length, take}
 use Rattle.terms.specs.Node.{Expr}
 use Rattle.terms.specs.Subst.{Subst, apply}
-use Rattle.search.specs.Next.{Clause, Book, Goal, Meets}
+use Rattle.search.specs.Next.{Clause, Book, Meets}
 use Rattle.words.specs.Word.{Plain, Valid, Fits, node, nodes}
 use Rattle.picking.specs.Laying.{moved}
 use Rattle.picking.specs.Picking.{Picked}

@@ -1,6 +1,6 @@
 use native.Mathlib.Omega.{arith}
-use mathlib.Core.Path.{_≡_, refl, sym as inv, _∙_, subst}
-use lib.ListN.{length, drop, length-drop}
+use mathlib.Core.Path.{_∙_}
+use lib.ListN.{drop, length-drop}
 use lib.Seq.{length-take-le}
 use borrow.Rule.Slice.PartMut.{putMid, same-len-mid}
 use Rattle.heapgoals.specs.HoldLaws.{fore-after}
@@ -10,69 +10,22 @@ use Rattle.treads.proofs.Bounding.{bounds-hold}
 use borrow.Author.Needs.{needs}
 use Rattle.treads.proofs.sizing.sized.Statement.{statement}
 use Rattle.treads.proofs.sizing.sized.Tie as tie
-use Rattle.treads.proofs.sizing.sized.Reads as reads
-use Rattle.treads.proofs.sizing.sized.Lts as lts
-use Rattle.bounds.proofs.growth.Reads as growth-reads
-use Rattle.treads.proofs.sizing.body_adds.Reads as body-adds-reads
-use Rattle.treads.proofs.sizing.bounded.Reads as bounded-reads
-
-sub-growth : tie.Need-sub-growth
-sub-growth c = omega arith
-
-part-growth-start : tie.Need-part-growth-start
-part-growth-start c = search needs
-
-part-growth-end : tie.Need-part-growth-end
-part-growth-end c = let u = c .before .before .before .before .before .pre .0 .6 in omega (arith, u .held .levels-long)
-
-sub-growth-2 : tie.Need-sub-growth-2
-sub-growth-2 c = omega arith
-
-part-growth-start-2 : tie.Need-part-growth-start-2
-part-growth-start-2 c = search needs
-
-part-growth-end-2 : tie.Need-part-growth-end-2
-part-growth-end-2 c = omega (arith, c .before .before .before .before .before .before .pre .1)
-
-growth-requires : tie.Need-growth-requires
-growth-requires c κs = let k = c .before .before .before .before .before .before .before .pre in let u = k .0 .6 in ((u .fitted .more .made, record { each = u .fitted .undoable .trailed .held }), (omega arith, omega arith, omega (arith, length-take-le 514 (drop 514 (c .before .before .before .before .before .before .before .args .levels .now)) (omega (arith, length-drop 514 (c .before .before .before .before .before .before .before .args .levels .now), u .held .levels-long))), omega (arith, trail-long (c .before .before .before .before .before .before .before .args .rows .now) (k .1), u .fitted .undoable .few)))
-
-sub-body-adds : tie.Need-sub-body-adds
-sub-body-adds c = omega arith
-
-part-body-adds-start : tie.Need-part-body-adds-start
-part-body-adds-start c = search needs
-
-part-body-adds-end : tie.Need-part-body-adds-end
-part-body-adds-end c = let u = c .before .before .before .before .before .before .before .before .before .before .pre .0 .6 in omega (arith, same-len-mid 514 514 (c .before .before .before .before .before .before .before .before .before .before .args .levels .now) (c .before .before .growth .last .1 .1 .0) (c .before .before .growth .kept .1 .1 .0), u .held .levels-long)
-
-body-adds-requires : tie.Need-body-adds-requires
-body-adds-requires c κs = let k = c .before .before .before .before .before .before .before .before .before .before .before .pre in let u = k .0 .6 in let l = putMid 514 514 (c .before .before .before .before .before .before .before .before .before .before .before .args .levels .now) (c .before .before .before .growth .last .1 .1 .0) in ((_, _, _, _, _, _, _, _, _, u), omega (arith, length-take-le 514 (drop 514 l) (omega (arith, length-drop 514 l, same-len-mid 514 514 (c .before .before .before .before .before .before .before .before .before .before .before .args .levels .now) (c .before .before .before .growth .last .1 .1 .0) (c .before .before .before .growth .kept .1 .1 .0), u .held .levels-long))))
-
-bounded-requires : tie.Need-bounded-requires
-bounded-requires c κs = let u = c .before .before .before .before .before .before .before .before .before .before .before .before .before .before .pre .0 .6 in let x = c .before .before .body-adds .ensures in let y = c .before .before .before .before .before .before .growth .ensures in (u .held .variables-room, u .held .goal-room, u .held .answer-room, known-most (c .before .before .body-adds .result .nodes) 256 (omega arith) (x .small), x .spread, y .some, known-most (c .before .before .before .before .before .before .growth .result .nodes) 4096 (omega arith) (y .low), y .few)
-
-same-length : tie.Need-same-length
-same-length c = search needs
-
-returns : tie.Need-returns
-returns c = let u = c .before .before .before .before .before .before .before .before .before .before .before .before .before .before .before .pre .0 .6 in let l = putMid 514 514 (c .before .before .before .before .before .before .before .before .before .before .before .before .before .before .before .args .levels .now) (c .before .before .before .before .before .before .before .growth .last .1 .1 .0) in (fore-after (fore-part (c .before .before .before .before .before .before .before .before .before .before .before .before .before .before .before .args .levels .now) (c .before .before .before .before .before .before .before .growth .last .1 .1 .0) (u .held .levels-long) (c .before .before .before .before .before .before .before .growth .kept .1 .1 .0)) (fore-part l (c .before .before .before .body-adds .last .1 .1 .1 .0) (same-len-mid 514 514 (c .before .before .before .before .before .before .before .before .before .before .before .before .before .before .before .args .levels .now) (c .before .before .before .before .before .before .before .growth .last .1 .1 .0) (c .before .before .before .before .before .before .before .growth .kept .1 .1 .0) ∙ u .held .levels-long) (c .before .before .before .body-adds .kept .1 .1 .1 .0)), λ n words before f g a d v. bounds-hold v (c .before .before .before .before .before .before .before .growth .result) (c .before .before .before .before .before .before .before .growth .ensures) (c .before .before .before .body-adds .result) (c .before .before .before .body-adds .ensures) (c .bounded .result) (c .bounded .ensures n))
 
 pub sized-spec : {M : Type 1} → statement M
 sized-spec =
     tie.close
     (tie.spec
-    sub-growth
-    part-growth-start
-    part-growth-end
-    sub-growth-2
-    part-growth-start-2
-    part-growth-end-2
-    growth-requires
-    sub-body-adds
-    part-body-adds-start
-    part-body-adds-end
-    body-adds-requires
-    bounded-requires
-    same-length
-    returns)
+    (λ c. omega arith)
+    (λ c. search needs)
+    (λ c. let u = c .before .before .before .before .before .pre .0 .6 in omega (arith, u .held .levels-long))
+    (λ c. omega arith)
+    (λ c. search needs)
+    (λ c. omega (arith, c .before .before .before .before .before .before .pre .1))
+    (λ c κs. let k = c .before .before .before .before .before .before .before .pre in let u = k .0 .6 in ((u .fitted .more .made, record { each = u .fitted .undoable .trailed .held }), (omega arith, omega arith, omega (arith, length-take-le 514 (drop 514 (c .before .before .before .before .before .before .before .args .levels .now)) (omega (arith, length-drop 514 (c .before .before .before .before .before .before .before .args .levels .now), u .held .levels-long))), omega (arith, trail-long (c .before .before .before .before .before .before .before .args .rows .now) (k .1), u .fitted .undoable .few))))
+    (λ c. omega arith)
+    (λ c. search needs)
+    (λ c. let u = c .before .before .before .before .before .before .before .before .before .before .pre .0 .6 in omega (arith, same-len-mid 514 514 (c .before .before .before .before .before .before .before .before .before .before .args .levels .now) (c .before .before .growth .last .1 .1 .0) (c .before .before .growth .kept .1 .1 .0), u .held .levels-long))
+    (λ c κs. let k = c .before .before .before .before .before .before .before .before .before .before .before .pre in let u = k .0 .6 in let l = putMid 514 514 (c .before .before .before .before .before .before .before .before .before .before .before .args .levels .now) (c .before .before .before .growth .last .1 .1 .0) in ((_, _, _, _, _, _, _, _, _, u), omega (arith, length-take-le 514 (drop 514 l) (omega (arith, length-drop 514 l, same-len-mid 514 514 (c .before .before .before .before .before .before .before .before .before .before .before .args .levels .now) (c .before .before .before .growth .last .1 .1 .0) (c .before .before .before .growth .kept .1 .1 .0), u .held .levels-long)))))
+    (λ c κs. let u = c .before .before .before .before .before .before .before .before .before .before .before .before .before .before .pre .0 .6 in let x = c .before .before .body-adds .ensures in let y = c .before .before .before .before .before .before .growth .ensures in (u .held .variables-room, u .held .goal-room, u .held .answer-room, known-most (c .before .before .body-adds .result .nodes) 256 (omega arith) (x .small), x .spread, y .some, known-most (c .before .before .before .before .before .before .growth .result .nodes) 4096 (omega arith) (y .low), y .few))
+    (λ c. search needs)
+    (λ c. let u = c .before .before .before .before .before .before .before .before .before .before .before .before .before .before .before .pre .0 .6 in let l = putMid 514 514 (c .before .before .before .before .before .before .before .before .before .before .before .before .before .before .before .args .levels .now) (c .before .before .before .before .before .before .before .growth .last .1 .1 .0) in (fore-after (fore-part (c .before .before .before .before .before .before .before .before .before .before .before .before .before .before .before .args .levels .now) (c .before .before .before .before .before .before .before .growth .last .1 .1 .0) (u .held .levels-long) (c .before .before .before .before .before .before .before .growth .kept .1 .1 .0)) (fore-part l (c .before .before .before .body-adds .last .1 .1 .1 .0) (same-len-mid 514 514 (c .before .before .before .before .before .before .before .before .before .before .before .before .before .before .before .args .levels .now) (c .before .before .before .before .before .before .before .growth .last .1 .1 .0) (c .before .before .before .before .before .before .before .growth .kept .1 .1 .0) ∙ u .held .levels-long) (c .before .before .before .body-adds .kept .1 .1 .1 .0)), λ n words before f g a d v. bounds-hold v (c .before .before .before .before .before .before .before .growth .result) (c .before .before .before .before .before .before .before .growth .ensures) (c .before .before .before .body-adds .result) (c .before .before .before .body-adds .ensures) (c .bounded .result) (c .bounded .ensures n))))
