@@ -14,18 +14,19 @@ ghost use mathlib.Core.Path.{_≡_};
 ghost use Prim.Native.Nat.{_+_, _≤_, min};
 ghost use lib.ListN.{length, take};
 ghost use Rattle.search.specs.Next.{Book, Goal};
-ghost use Rattle.words.specs.Held.{RowIn, BookOn};
+ghost use Rattle.words.specs.Held.{BookOn};
 ghost use Rattle.format.specs.Decode.{bookOf};
 ghost use Rattle.areas.specs.Rooms.{Rooms};
 ghost use Rattle.states.specs.States.{Ends};
+ghost use Rattle.searching.specs.Searching.{Asked};
 ghost use Rattle.outcomes.specs.Outcome.{closing, runAnswer, runArea, runAnswerArea};
 ghost use Rattle.outcomes.specs.Refusals.{Good};
 ghost use Rattle.outcomes.specs.Running.{Leaves};
 
 // The search from a goal, with storage for its steps.
 fn from_goal(book: &[u32], shelf: &[u16], goal: &mut [u32], query: Query) -> Ended
-    requires { ⌜ (8192 ≤ length (now goal)) × (query .words + query .answer ≤ length (now goal)) × ((P : Book) × BookOn (now book) (now shelf) P) × ((q : Goal) × RowIn (take (query .words + query .answer) (now goal)) (query .words) (query .formulas) q q) ⌝ }
-    ensures { λ r. ⌜ ((P : Book) (q : Goal) → BookOn (now (book .entry)) (now (shelf .entry)) P → RowIn (take (query .words + query .answer) (now (goal .entry))) (query .words) (query .formulas) q q → Ends P q (query .budget) (now (goal .exit)) r) ⌝ }
+    requires { ⌜ (8192 ≤ length (now goal)) × (query .words + query .answer ≤ length (now goal)) × ((P : Book) × BookOn (now book) (now shelf) P) × ((q : Goal) × Asked (take (query .words + query .answer) (now goal)) (query .words) (query .formulas) q) ⌝ }
+    ensures { λ r. ⌜ ((P : Book) (q : Goal) → BookOn (now (book .entry)) (now (shelf .entry)) P → Asked (take (query .words + query .answer) (now (goal .entry))) (query .words) (query .formulas) q → Ends P q (query .budget) (now (goal .exit)) r) ⌝ }
 {
     let mut saved = [0u32; 4096];
     let mut pair = [0u32; 8448];

@@ -11,7 +11,7 @@ use Rattle.words.specs.Held.{RowIn}
 use Rattle.words.specs.HeldLaws.{row-goal, row-answer, row-of}
 use Rattle.states.specs.declared.Ended.{Ended}
 use Rattle.states.specs.States.{Ends}
-use Rattle.searching.specs.Searching.{back}
+use Rattle.searching.specs.Searching.{Asked, back}
 use Rattle.states.proofs.Copies.{copied-length, copied-front}
 use Rattle.searching.proofs.Backs.{row-small, back-long, back-lent, back-put}
 
@@ -29,11 +29,9 @@ module _ (goal room : List ℕ) (n : ℕ) (g : n ≤ length goal) (r : n ≤ len
       back-put n goal part′ from end g is-end is-from same
       ∙ f ∙ ap (λ x. take n room′ ++ x) (drop-of-length-le part {i = n} (omega (arith, part-long))) ∙ append-nil (take n room′) ∙ copied-front goal room room′ n g e
 
-  -- to the front
-  pub put-front : (room′ : List ℕ) → room′ ≡ take n part ++ drop n room → (goal′ : List ℕ) → goal′ ≡ take n room′ ++ drop n goal → take n goal′ ≡ back n goal
-  put-front room′ e goal′ f =
-      copied-front room′ goal goal′ n (omega (arith, copied-length part room room′ n (omega (arith, part-long)) r e, r)) f
-      ∙ copied-front part room room′ n (omega (arith, part-long)) e ∙ take-all n part (omega (arith, part-long)) ∙ back-lent n goal from end is-end is-from
+  -- to other storage, and to the front
+  pub put-aside : (room′ : List ℕ) → room′ ≡ take n part ++ drop n room → take n room′ ≡ back n goal
+  put-aside room′ e = copied-front part room room′ n (omega (arith, part-long)) e ∙ take-all n part (omega (arith, part-long)) ∙ back-lent n goal from end is-end is-from
 
 -- what a run has closed with, at the front
 module _ {P : Book} {q : Goal} {budget : ℕ} {row : List ℕ} {e : Ended} (x : Ends P q budget row e) where
@@ -72,8 +70,8 @@ closed-long goal {e} x =
 
 -- the query's row, before and after it is taken to the end
 module _ (goal : List ℕ) (n m w : ℕ) (l : n + w ≤ length goal) where
-  pub query-small : {q : Goal} → RowIn (take (n + w) goal) n m q q → n + w ≤ 8192
-  query-small h = row-small (take (n + w) goal) n m w (length-take-le (n + w) goal l) h
+  pub query-small : {q : Goal} → Asked (take (n + w) goal) n m q → n + w ≤ 8192
+  query-small h = row-small (take (n + w) goal) n m w (length-take-le (n + w) goal l) (h .held)
 
-  pub query-back : {q : Goal} → RowIn (take (n + w) goal) n m q q → (goal′ : List ℕ) → back (n + w) goal′ ≡ take (n + w) goal → RowIn (back (n + w) goal′) n m q q
-  query-back {q} h goal′ e = subst (λ r. RowIn r n m q q) (inv e) h
+  pub query-back : {q : Goal} → Asked (take (n + w) goal) n m q → (goal′ : List ℕ) → back (n + w) goal′ ≡ take (n + w) goal → Asked (back (n + w) goal′) n m q
+  query-back {q} h goal′ e = subst (λ r. Asked r n m q) (inv e) h

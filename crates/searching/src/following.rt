@@ -1,6 +1,5 @@
 // The state after an open one.
 use detector::Detector;
-use fronts::Going;
 use resolve::Move;
 use states::Place;
 use states::Turn;
@@ -14,7 +13,7 @@ ghost use mathlib.Core.Path.{_≡_};
 ghost use mathlib.Core.List.{_++_};
 ghost use lib.ListN.{length, take, drop};
 ghost use Rattle.states.specs.States.{Somewhere, Looked};
-ghost use Rattle.searching.specs.Searching.{Moving, Moved, Following, Followed, Proceeding, Proceeded};
+ghost use Rattle.searching.specs.Searching.{Moving, Moved, Following, Followed};
 
 // The next row: so many words of what a step wrote come before the last of the words that the goal's storage has; and how many words are its goal's
 // and its answer's, and how many formulas its goal has.
@@ -26,7 +25,7 @@ pub struct Onto {
 }
 
 // The next row put in its place, and the state looked at.
-fn enter(
+pub fn enter(
     row: &mut [u32],
     out: &[u32],
     next: Onto,
@@ -70,7 +69,7 @@ fn move_on(goal: &mut [u32], saved: &mut [u32], out: &[u32], place: Place, next:
 
 // The other tests of a state, from what the book says to its goal: "no head unifies, 22" or 26 in its place; "t equals the
 // budget, 23; next goal too big, 24"; the next answer too big, 27 (document 02, C-11). "Otherwise" the next state.
-fn follow(
+pub fn follow(
     goal: &mut [u32],
     saved: &mut [u32],
     out: &[u32],
@@ -110,38 +109,6 @@ fn follow(
                 words,
                 answer,
                 formulas,
-            };
-            return move_on(goal, saved, out, place, row);
-        }
-    }
-}
-
-// The same from what the first formula alone has led to, where it has.
-pub fn proceed(
-    goal: &mut [u32],
-    saved: &mut [u32],
-    out: &[u32],
-    place: Place,
-    next: Going,
-    budget: u32,
-) -> Turn
-    requires { ⌜ Proceeding (now goal) (now saved) (now out) place next budget ⌝ }
-    ensures { λ r. ⌜ Proceeded (now (goal .entry)) (now (saved .entry)) (now (out .entry)) place next budget (now (goal .exit)) (now (saved .exit)) r ⌝ }
-{
-    match next {
-        Going::Whole(to) => {
-            return follow(goal, saved, out, place, to, budget);
-        }
-        Going::Front(words, formulas) => {
-            let detector = place.detector;
-            if detector.step == budget {
-                return close(23, detector, 0, place.words, place.formulas, place.answer);
-            }
-            let row = Onto {
-                copied: words,
-                words: words + (place.words - place.front),
-                answer: place.answer,
-                formulas: formulas + place.formulas - 1,
             };
             return move_on(goal, saved, out, place, row);
         }

@@ -15,12 +15,20 @@ pub fn to_back(goal: &mut [u32], room: &mut [u32], n: usize)
     copy_words(room, &mut goal[from..end], n);
 }
 
-pub fn to_front(goal: &mut [u32], room: &mut [u32], n: usize)
+// The row, in other storage.
+pub fn lay(goal: &[u32], room: &mut [u32], n: usize)
     requires { ⌜ (n ≤ length (now goal)) × (n ≤ length (now room)) ⌝ }
-    ensures { λ _. ⌜ take n (now (goal .exit)) ≡ back n (now (goal .entry)) ⌝ }
+    ensures { λ _. ⌜ take n (now (room .exit)) ≡ back n (now (goal .entry)) ⌝ }
 {
     let end = goal.len();
     let from = end - n;
     copy_words(&goal[from..end], room, n);
+}
+
+pub fn to_front(goal: &mut [u32], room: &mut [u32], n: usize)
+    requires { ⌜ (n ≤ length (now goal)) × (n ≤ length (now room)) ⌝ }
+    ensures { λ _. ⌜ take n (now (goal .exit)) ≡ back n (now (goal .entry)) ⌝ }
+{
+    lay(goal, room, n);
     copy_words(room, goal, n);
 }

@@ -4,3 +4,5 @@ pub mod Verdicts
 pub mod Fronts
 pub mod Turns
 pub mod Looks
+pub mod Twice
+pub mod Visits

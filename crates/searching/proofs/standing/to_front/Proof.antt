@@ -1,5 +1,5 @@
-use Rattle.searching.proofs.Stands.{part-long, put-front}
-use mathlib.Core.Path.{refl}
+use Rattle.states.proofs.Copies.{copied-front}
+use mathlib.Core.Path.{_∙_}
 use native.Mathlib.Omega.{arith}
 use borrow.Author.Needs.{needs}
 use Rattle.searching.proofs.standing.to_front.Statement.{statement}
@@ -7,15 +7,4 @@ use Rattle.searching.proofs.standing.to_front.Tie as tie
 
 pub to-front-spec : {M : Type 1} → statement M
 to-front-spec =
-    tie.close
-    (tie.spec
-    (λ c. search needs)
-    (λ c. search needs)
-    (λ c. search needs)
-    (λ c. search needs)
-    (λ c. search needs)
-    (λ c κs. (omega (arith, part-long (c .before .before .before .before .before .args .goal .now) (c .before .before .before .before .before .args .room .now) (c .before .before .before .before .before .args .n) (c .before .before .before .before .before .pre .0) (c .before .before .before .before .before .pre .1) _ _ refl refl), c .before .before .before .before .before .pre .1))
-    (λ c κs. search needs)
-    (λ c. search needs)
-    (λ c. search needs)
-    (λ c. put-front _ _ _ (c .before .before .before .before .before .before .before .before .before .before .before .before .before .pre .0) (c .before .before .before .before .before .before .before .before .before .before .before .before .before .pre .1) _ _ refl refl _ (c .before .before .before .before .before .before .before .copy-words .ensures) _ (c .before .before .copy-words2 .ensures)))
+    tie.close (tie.spec (λ c κs. search needs) (λ c κs. search needs) (λ c. search needs) (λ c. search needs) (λ c. copied-front _ (c .before .before .before .before .before .before .before .before .before .before .before .before .args .goal .now) _ (c .before .before .before .before .before .before .before .before .before .before .before .before .args .n) (omega (arith, c .before .before .before .before .before .before .before .lay .kept .1 .0, c .before .before .before .before .before .before .before .before .before .before .before .before .pre .1)) (c .before .before .copy-words .ensures) ∙ c .before .before .before .before .before .before .before .lay .ensures))

@@ -1,3 +1,0 @@
--- Laws that the proofs share.
-mod Bares
-pub mod Slides

@@ -1,0 +1,2 @@
+-- Several steps of a run on the heap.
+pub mod Riding
