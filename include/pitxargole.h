@@ -14,7 +14,7 @@ extern "C" {
 
 /* No call needs more bytes of stack than this, on any processor of ports/targets, with 1,024 for the C library's memcpy and memset. tests/module holds the
    number to the compiled engine's frames. */
-#define PITXARGOLE_STACK 253952
+#define PITXARGOLE_STACK 258048
 
 /* Codes. The input was refused, and the areas are as they were: */
 #define PITXARGOLE_AREA_SHORT 1    /* goal area or answer area too short */
