@@ -38,7 +38,7 @@ pub struct Run {
 }
 
 // The symbols up to the first variable, the end of the rows or the limit, as they are.
-fn symbols(heap: &[u32], out: &mut [u32], from: Run, limit: usize) -> Run
+pub fn symbols(heap: &[u32], out: &mut [u32], from: Run, limit: usize) -> Run
     requires { ⌜ Valids (now heap) × (length (now heap) < 65536) × Whole (now heap) (from .due) (from .at) ⌝ }
     requires { ⌜ (from .pen ≤ limit) × (limit ≤ 8192) × (limit ≤ length (now out)) ⌝ }
     ensures { λ r. ⌜ Copied (now (heap .entry)) (now (out .entry)) from limit (now (out .exit)) r ⌝ }

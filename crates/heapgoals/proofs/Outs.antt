@@ -2,7 +2,7 @@
 use Prim.Native.Nat.{ℕ, _+_, _-_, _%_, _<_, _≤_}
 use native.Mathlib.Omega.{arith}
 use mathlib.Core.Path.{_≡_, refl, sym as inv, ap, ap₂, _∙_, subst}
-use mathlib.Core.List.{List, [], _∷_, _++_}
+use mathlib.Core.List.{List, [], _∷_, _++_, append-nil}
 use lib.ListN.{length, getD, take, drop, length-drop, length-map}
 use lib.Seq.{take-at, drop-at, length-take-le}
 use Rattle.terms.specs.Node.{Expr}
@@ -18,9 +18,11 @@ use Rattle.words.specs.Flat.{flat, flat-number}
 use Rattle.words.specs.Held.{RowIn}
 use Rattle.numbering.specs.Naming.{table, back}
 use Rattle.heap.specs.Heap.{rows}
-use Rattle.heap.specs.Writing.{Writes}
+use Rattle.heap.specs.HeapLaws.{rows-none}
+use Rattle.heap.specs.Writing.{Writes, Copied}
 use Rattle.heap.specs.WriteLaws.{writes-append}
 use Rattle.heap.specs.declared.writing.Pen.{Pen}
+use Rattle.heap.specs.declared.writing.Run.{Run}
 use Rattle.heapgoals.specs.declared.Standing.{Standing}
 use Rattle.heapgoals.specs.declared.writing.Row as Shown
 use Rattle.heapgoals.specs.Holding.{used, Holds}
@@ -152,6 +154,18 @@ pub row-out : {words cells levels heap : List ℕ} {s : Standing} {g a : Goal} �
 row-out {words} {cells} {levels} {heap} {s} h e {names} {out} {names₁} {out₁} {names₂} {out₂} {goal} {all} x l {end} ends y m long =
     row-shown h (subst (λ z. Laid z cells names out origin (goal-part z levels s) 4096 names₁ out₁ goal) e x) l ends
     (subst (λ z. Laid z cells names₁ out₁ goal (visited z (s .answers) (s .answer)) end names₂ out₂ all) e y) m long
+
+-- Symbols alone, copied, stand for themselves.
+pub symbols-laid : (names : List ℕ) {heap cells out out′ : List ℕ} {from r : Run} {limit : ℕ} → from .pen ≡ 0 → Copied heap out from limit out′ r → r .due ≡ 0
+    → Laid heap cells names out origin (visited heap (from .due) (from .at)) limit names out′ (record { at = r .pen; count = 0 })
+symbols-laid names {heap} {cells} {out} {out′} {from} {r} zero x none = record {
+  fits = λ l θ h.
+      let all : apply θ (rows heap (from .due) (from .at)) ≡ x .done =
+      x .same θ ∙ ap (λ e. x .done ++ apply θ e) (ap (λ n. rows heap n (r .at)) none ∙ rows-none heap (r .at)) ∙ append-nil (x .done) in
+      subst (λ e. Writes names out origin e names out′ (record { at = r .pen; count = 0 })) (inv all)
+      (subst (λ (n : ℕ). Writes names out (record { at = n; count = 0 }) (x .done) names out′ (record { at = r .pen; count = 0 })) zero (x .written names 0));
+  few = λ l. omega arith;
+}
 
 -- The first formula.
 pub lead-out : {words cells levels heap : List ℕ} {s : Standing} {f : Expr} {g a : Goal} → Holds words cells levels s (f ∷ g) a → heap ≡ used words s → {names out names′ out′ : List ℕ} {r : Pen}

@@ -3,6 +3,8 @@ use crate::Standing;
 use crate::telling::differs;
 use heap::walking::Walk;
 use heap::writing::Pen;
+use heap::writing::Run;
+use heap::writing::symbols;
 use heap::writing::write;
 use words::get;
 ghost use mathlib.Core.Path.{_≡_};
@@ -212,7 +214,8 @@ pub fn write_out(
     write_rows(&words[0..top], cells, levels, rows, out, s)
 }
 
-// The goal's first formula, numbered: how many words it has, or over 4,096 where the writing gave up.
+// The goal's first formula, numbered: how many words it has, or over 4,096 where the writing gave up. Where it stands there with symbols alone, as it mostly does when a save is due, there is
+// nothing to follow or to number.
 pub fn write_first(
     words: &[u32],
     cells: &[u16],
@@ -228,6 +231,15 @@ pub fn write_first(
     ensures spare { λ _. ⌜ spare (now (rows .exit)) ≡ spare (now (rows .entry)) ⌝ }
 {
     let top = s.top;
+    let start = Run {
+        at: s.at,
+        due: 1,
+        pen: 0,
+    };
+    let run = symbols(&words[0..top], out, start, 4096);
+    if run.due == 0 {
+        return run.pen;
+    }
     let from = Pen { at: 0, count: 0 };
     let w = Walk {
         at: s.at,
