@@ -74,6 +74,14 @@ module _ (heap : List ℕ) (k p : ℕ) (inside : p < length heap) where
         go : {s : Symbol} {e : Expr} → Row (suc k) (sym s ∷ e) → Row (arity s + k) e
         go (row-sym r) = r
 
+-- what a symbol's row stands for, and k rows behind it
+pub stands-symbol : (heap : List ℕ) (k p : ℕ) → p < length heap → Valid (getD heap p 0) → Plain (getD heap p 0) → (τ : Subst)
+    → apply τ (rows heap (suc k) p) ≡ node (getD heap p 0) ∷ apply τ (rows heap (arityOf (getD heap p 0) + k) (suc p))
+stands-symbol heap k p inside valid plain τ =
+    let (s, e) = node-sym (getD heap p 0) plain in
+    let after = rows heap (arityOf (getD heap p 0) + k) (suc p) in
+    ap (apply τ) (rows-sym heap k p inside valid plain) ∙ subst (λ n. apply τ (n ∷ after) ≡ n ∷ apply τ after) (inv e) refl
+
 -- what one row stands for, of a variable and of a symbol
 module _ (heap : List ℕ) (p : ℕ) (inside : p < length heap) (τ : Subst) where
   pub stands-var : kindOf (getD heap p 0) ≡ 1 → apply τ (rows heap 1 p) ≡ τ (getD heap p 0 % 65536)
@@ -81,10 +89,8 @@ module _ (heap : List ℕ) (p : ℕ) (inside : p < length heap) (τ : Subst) whe
 
   pub stands-sym : Valid (getD heap p 0) → (n : Plain (getD heap p 0)) → {k : ℕ} → k ≡ arityOf (getD heap p 0) → apply τ (rows heap 1 p) ≡ node (getD heap p 0) ∷ apply τ (rows heap k (suc p))
   stands-sym valid n {k} e =
-      let (s, x) = node-sym (getD heap p 0) n in
-      let args = rows heap (arityOf (getD heap p 0) + 0) (suc p) in
       let same : arityOf (getD heap p 0) + 0 ≡ k = omega (arith, e) in
-      ap (apply τ) (rows-sym heap 0 p inside valid n ∙ ap (λ y. y ∷ args) x) ∙ ap (λ y. y ∷ apply τ args) (inv x) ∙ ap (λ j. node (getD heap p 0) ∷ apply τ (rows heap j (suc p))) same
+      stands-symbol heap 0 p inside valid n τ ∙ ap (λ j. node (getD heap p 0) ∷ apply τ (rows heap j (suc p))) same
 
 -- a node, its arguments and k rows behind them, be it a variable's or a symbol's
 module _ (heap : List ℕ) (k p : ℕ) (inside : p < length heap) (valid : Valid (getD heap p 0)) where

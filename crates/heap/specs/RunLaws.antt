@@ -12,7 +12,7 @@ use Rattle.words.specs.Word.{kindOf, arityOf, Plain, Valid, Valids, Fit, Fits, 
 use Rattle.words.specs.WordLaws.{node-sym, each-append, each-make}
 use Rattle.numbering.specs.Naming.{table, back, Table}
 use Rattle.heap.specs.Heap.{rows, Whole, Solved}
-use Rattle.heap.specs.HeapLaws.{row-inside, rows-few, rows-sym, whole-sym}
+use Rattle.heap.specs.HeapLaws.{row-inside, rows-few, whole-sym, stands-symbol}
 use Rattle.heap.specs.Walking.{behind, ahead, settled, settled-at}
 use Rattle.heap.specs.WalkLaws.{settled-ahead, settled-ready}
 use Rattle.heap.specs.Writing.{Writes, Copied}
@@ -62,11 +62,8 @@ module _ {heap out out′ : List ℕ} {from : Run} {limit at due pen : ℕ} (x :
     abbrev after : Expr
     after = rows heap (arityOf (getD heap at 0) + d) (suc at)
 
-    here : rows heap due at ≡ node (getD heap at 0) ∷ after
-    here = let z : due ≡ suc d = omega (arith, some) in ap (λ n. rows heap n at) z ∙ rows-sym heap d at copied-inside (valids at copied-inside) plain
-
-    applied : (θ : Subst) → apply θ (node (getD heap at 0) ∷ after) ≡ node (getD heap at 0) ∷ apply θ after
-    applied θ = let (f, is) = node-sym (getD heap at 0) plain in subst (λ n. apply θ (n ∷ after) ≡ n ∷ apply θ after) (inv is) refl
+    stands : (θ : Subst) → apply θ (rows heap due at) ≡ node (getD heap at 0) ∷ apply θ after
+    stands θ = let z : due ≡ suc d = omega (arith, some) in ap (λ n. apply θ (rows heap n at)) z ∙ stands-symbol heap d at copied-inside (valids at copied-inside) plain θ
 
     pub copied-more : (pen ≡ limit → ⊥) → limit ≤ length out → {a b c k : ℕ} → k ≡ arityOf u → a ≡ suc at → b ≡ due - 1 + k → c ≡ suc pen → Copied heap out from limit (set out′ pen u) (run a b c)
     copied-more less room {a} {b} {c} {k} ek ea eb ec = rw ea (rw (eb ∙ count) (rw ec (rw e (record {
@@ -74,7 +71,7 @@ module _ {heap out out′ : List ℕ} {from : Run} {limit at due pen : ℕ} (x :
       onward = omega (arith, x .onward);
       high = omega (arith, x .high, less);
       done = x .done ++ (node (getD heap at 0) ∷ []);
-      same = λ θ. x .same θ ∙ ap (λ y. x .done ++ y) (ap (apply θ) here ∙ applied θ) ∙ inv (append-assoc (x .done) (node (getD heap at 0) ∷ []) (apply θ after));
+      same = λ θ. x .same θ ∙ ap (λ y. x .done ++ y) (stands θ) ∙ inv (append-assoc (x .done) (node (getD heap at 0) ∷ []) (apply θ after));
       written = λ names n. writes-append (x .written names n) (writes-symbol names out′ pen n (getD heap at 0) (omega (arith, x .high, less, room, x .written names n .long)) (valids at copied-inside) plain);
     }))))
       where

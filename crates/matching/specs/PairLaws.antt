@@ -5,17 +5,66 @@ use native.Mathlib.Decide.{ℕ-discrete}
 use mathlib.Core.Path.{_≡_, refl, sym as inv, ap, ap₂, _∙_, subst, transport}
 use mathlib.Core.Logic.{_↔_}
 use mathlib.Core.List.{List, [], _∷_, _++_}
-use lib.ListN.{length, getD, set, length-set}
+use lib.ListN.{length, getD, drop, set, length-set}
 use lib.Seq.{getD-set-same, getD-set-other}
 use Rattle.terms.specs.Subst.{Subst, Proper, apply}
 use Rattle.terms.specs.SubstLaws.{apply-append, apply-row}
 use Rattle.terms.specs.Row.{Row, row-end}
 use Rattle.terms.specs.RowLaws.{row-unique}
+use Rattle.words.specs.Word.{arityOf, Plain, Valids, node}
 use Rattle.heap.specs.Heap.{rows, Whole}
-use Rattle.heap.specs.HeapLaws.{rows-none, row-inside, rows-inside, first-whole, rest-whole, rows-first}
+use Rattle.heap.specs.HeapLaws.{rows-none, row-inside, rows-few, rows-inside, whole-sym, stands-symbol, first-whole, rest-whole, rows-first}
 use Rattle.matching.specs.Meeting.{Equal}
-use Rattle.matching.specs.Pairs.{level-left, level-right, level-due, Equal-levels, Equal-all, Due, Behind, Settled, Entered}
+use Rattle.matching.specs.Pairs.{level-left, level-right, level-due, Equal-levels, Equal-all, Due, Alike, Behind, Settled, Entered}
 use Rattle.matching.specs.declared.pairs.Pairs.{Pairs}
+
+-- Pairs of the same symbol.
+
+pub alike-none : (heap : List ℕ) (x : Pairs) → Whole heap (x .due) (x .p) → Whole heap (x .due) (x .q) → Alike heap x (record { p = x .p; q = x .q; due = x .due; depth = x .depth })
+alike-none heap x l r = record { left = l; right = r; depth = refl; just = λ τ. (λ e. e, λ e. e) }
+
+module _ {heap : List ℕ} {x : Pairs} {p q due depth : ℕ} (a : Alike heap x (record { p = p; q = q; due = due; depth = depth })) (some : 0 < due) where
+  is-more : due ≡ suc (due - 1)
+  is-more = omega (arith, some)
+
+  -- the rows that are due, one more than the others
+  more-whole : (r : ℕ) → Whole heap due r → Whole heap (suc (due - 1)) r
+  more-whole r = subst (λ n. Whole heap n r) is-more
+
+  pub alike-left : p < length heap
+  alike-left = row-inside heap (due - 1) p (more-whole p (a .left))
+
+  pub alike-right : q < length heap
+  alike-right = row-inside heap (due - 1) q (more-whole q (a .right))
+
+  pub alike-few : due ≤ length heap
+  alike-few = rows-few heap due p (a .left)
+
+  module _ (valids : Valids heap) {u v : ℕ} (eu : u ≡ getD heap p 0) (ev : v ≡ getD heap q 0) (high : 33554432 ≤ u) (same : u ≡ v) where
+    plain : (r : ℕ) → u ≡ getD heap r 0 → Plain (getD heap r 0)
+    plain r e k = omega (arith, e, high, k)
+
+    stands : (τ : Subst) (r : ℕ) → r < length heap → u ≡ getD heap r 0 → apply τ (rows heap due r) ≡ node u ∷ apply τ (rows heap (arityOf u + (due - 1)) (suc r))
+    stands τ r l e = rw e (ap (λ n. apply τ (rows heap n r)) is-more ∙ stands-symbol heap (due - 1) r l (valids r l) (plain r e) τ)
+
+    next : (r : ℕ) → r < length heap → u ≡ getD heap r 0 → Whole heap due r → Whole heap (arityOf u + (due - 1)) (suc r)
+    next r l e w = rw e (whole-sym heap (due - 1) r l (valids r l) (plain r e) (more-whole r w))
+
+    pub alike-more : {p′ q′ due′ k : ℕ} → k ≡ arityOf u → p′ ≡ suc p → q′ ≡ suc q → due′ ≡ due - 1 + k → Alike heap x (record { p = p′; q = q′; due = due′; depth = depth })
+    alike-more {due′ = due′} ek ep eq ed = rw ep (rw eq (rw count (record {
+      left = next p alike-left eu (a .left);
+      right = next q alike-right (same ∙ ev) (a .right);
+      depth = a .depth;
+      just = λ τ.
+          let l = stands τ p alike-left eu in
+          let r = stands τ q alike-right (same ∙ ev) in (
+            λ e. ap (drop 1) (inv l ∙ a .just τ .0 e ∙ r),
+            λ e. a .just τ .1 (l ∙ ap (λ z. node u ∷ z) e ∙ inv r),
+          );
+    })))
+      where
+        count : due′ ≡ arityOf u + (due - 1)
+        count = omega (arith, ed, ek)
 
 -- the first of two rows, and the others
 module _ (heap : List ℕ) (d p q : ℕ) (left : Whole heap (suc d) p) (right : Whole heap (suc d) q) {p′ q′ : ℕ} (ep : p′ ≡ p + length (rows heap 1 p)) (eq : q′ ≡ q + length (rows heap 1 q)) where

@@ -34,6 +34,13 @@ pub record Due (heap levels : List ℕ) (x : Pairs) : Type 0 where
   pub back : (i : ℕ) → i < x .depth → Whole heap (level-due levels i) (level-left levels i) × Whole heap (level-due levels i) (level-right levels i) × (0 < level-due levels i)
   pub room : 3 * x .depth ≤ length levels
 
+-- r is x without some pairs that are equal whatever is bound
+pub record Alike (heap : List ℕ) (x r : Pairs) : Type 0 where
+  pub left : Whole heap (r .due) (r .p)
+  pub right : Whole heap (r .due) (r .q)
+  pub depth : r .depth ≡ x .depth
+  pub just : (τ : Subst) → Equal heap τ (x .due) (x .p) (x .q) ↔ Equal heap τ (r .due) (r .p) (r .q)
+
 -- r is x without its first pair
 pub record Behind (heap : List ℕ) (x r : Pairs) : Type 0 where
   pub left : Whole heap (r .due) (r .p)

@@ -12,7 +12,7 @@ use Rattle.heap.specs.HeapLaws.{rows-few}
 use Rattle.heap.specs.SolvedLaws.{solved-induction}
 use Rattle.matching.specs.Meeting.{Equal}
 use Rattle.matching.specs.Binding.{Trailed, trail-none}
-use Rattle.matching.specs.Pairs.{Equal-levels, Equal-all, Due, Behind, Settled, Entered}
+use Rattle.matching.specs.Pairs.{Equal-levels, Equal-all, Due, Alike, Behind, Settled, Entered}
 use Rattle.matching.specs.PairLaws.{none-due, first-row-whole}
 use Rattle.matching.specs.Unifying.{Unmixed, Begun, Unseen, Stepped, Trail-kept, Unified}
 use Rattle.matching.specs.UnseenLaws.{unseen as more-unseen}
@@ -41,16 +41,16 @@ abbrev now : Trial → ℕ → ℕ → Trial
 now t count fuel = record { base = t .base; start = t .start; count = count; fuel = fuel }
 
 module _ {heap cells trail : List ℕ} {t : Trial} {p q : ℕ} where
-  pub unify-start : {stack : List ℕ} → Made heap cells → Whole heap 1 p → Whole heap 1 q → Unifying heap cells trail t p q cells trail stack (t .count) (t .fuel) (record { p = p; q = q; due = 1; depth = 0 })
-  unify-start made l r = record {
+  pub unify-start : {stack : List ℕ} {x : Pairs} → Made heap cells → Alike heap (record { p = p; q = q; due = 1; depth = 0 }) x → Unifying heap cells trail t p q cells trail stack (t .count) (t .fuel) x
+  unify-start {stack} {x} made a = record {
     made = made;
     long = refl;
     trail-long = refl;
     grows = λ v e. e;
     solved = λ θ s. (θ, s);
-    due = record { left = l; right = r; back = λ i h. absurd (omega arith); room = omega arith };
-    ended = λ e. absurd (omega arith);
-    just = λ τ. (λ (s, e). (s, (e, tt)), λ (s, e). (s, e .0));
+    due = record { left = a .left; right = a .right; back = λ i h. absurd (omega (arith, h, a .depth)); room = omega (arith, a .depth) };
+    ended = λ e. a .depth;
+    just = λ τ. (λ (s, e). (s, (a .just τ .0 e, subst (Equal-levels heap stack τ) (inv (a .depth)) tt)), λ (s, e). (s, a .just τ .1 (e .0)));
     trailed = λ before b. b;
     unseen = λ θ s n v f h e. e;
     spent = omega arith;

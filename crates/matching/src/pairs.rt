@@ -1,11 +1,14 @@
 // Pairs of rows that are still to be made equal.
+use heap::SYMBOL;
 use heap::past;
+use words::arity;
 use words::get;
+use words::word;
 ghost use Prim.Native.Nat.{_+_, _*_, _<_, _≤_};
 ghost use lib.ListN.{length};
 ghost use Rattle.words.specs.Word.{Valids};
 ghost use Rattle.heap.specs.Heap.{Whole};
-ghost use Rattle.matching.specs.Pairs.{Behind, Settled, Entered};
+ghost use Rattle.matching.specs.Pairs.{Alike, Behind, Settled, Entered};
 
 // `due` rows from p on and as many from q on, pair by pair, and then those of the levels, the last first. A level is three numbers: two positions,
 // and how many rows are due there.
@@ -14,6 +17,30 @@ pub struct Pairs {
     pub q: usize,
     pub due: usize,
     pub depth: usize,
+}
+
+// The pairs behind those that the same symbols make, word for word: they are equal whatever is bound, and nothing has to be followed, kept or paid for.
+pub fn past_alike(heap: &[u32], x: Pairs) -> Pairs
+    requires { ⌜ Valids (now heap) × (length (now heap) < 65536) × Whole (now heap) (x .due) (x .p) × Whole (now heap) (x .due) (x .q) ⌝ }
+    ensures { λ r. ⌜ Alike (now (heap .entry)) x r ⌝ }
+{
+    let depth = x.depth;
+    let mut p = x.p;
+    let mut q = x.q;
+    let mut due = x.due;
+    while 0 < due {
+        let u = word(heap, p);
+        if u < SYMBOL {
+            return Pairs { p, q, due, depth };
+        }
+        if u != word(heap, q) {
+            return Pairs { p, q, due, depth };
+        }
+        due = due - 1 + arity(u);
+        p += 1;
+        q += 1;
+    }
+    Pairs { p, q, due, depth }
 }
 
 // The pairs behind the first.

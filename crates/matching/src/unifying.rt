@@ -7,6 +7,7 @@ use crate::occurring::occurs;
 use crate::pairs::Pairs;
 use crate::pairs::behind;
 use crate::pairs::entered;
+use crate::pairs::past_alike;
 use crate::pairs::settled;
 ghost use Prim.Native.Nat.{_+_, _<_, _≤_};
 ghost use lib.ListN.{length};
@@ -129,12 +130,13 @@ pub fn unify(
     let start = t.start;
     let mut count = t.count;
     let mut fuel = t.fuel;
-    let mut x = Pairs {
+    let first = Pairs {
         p,
         q,
         due: 1,
         depth: 0,
     };
+    let mut x = past_alike(heap, first);
     while 0 < x.due {
         let rest = behind(heap, x);
         let spent = 1 + (rest.p - x.p) + (rest.q - x.q);
