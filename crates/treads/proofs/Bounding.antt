@@ -32,14 +32,14 @@ use Rattle.heapgoals.specs.Holding.{answer-rows, used, Holds}
 use Rattle.heapgoals.specs.ListLaws.{listed-flat}
 use Rattle.heapgoals.specs.HoldLaws.{rest-rows, held-rows, held-first, first-meant, rest-meant, answer-meant, held-all, held-low, held-free}
 use Rattle.heapgoals.specs.declared.Standing.{Standing}
-use Rattle.treads.specs.Trying.{laid, Fitted}
+use Rattle.attempts.specs.Trying.{laid, Fitted}
 use Rattle.treads.specs.Stepping.{Under-way, body-at, body-rows, next-rows, first-of, Bounded}
 use Rattle.treads.specs.Adding.{span-words, head-long, Thrifty-adds, Counted-adds, Adds, Summed}
 use Rattle.treads.specs.declared.sizing.Span.{Span}
 use Rattle.treads.specs.declared.sizing.Added.{Added}
 use Rattle.treads.specs.declared.sizing.Bounds.{Bounds}
-use Rattle.treads.proofs.Extending.{rename-length}
-use Rattle.treads.proofs.Laying.{whole-fits, unifier-meant, general}
+use Rattle.attempts.proofs.Extending.{rename-length}
+use Rattle.attempts.proofs.Laying.{whole-fits, unifier-meant, general}
 use Rattle.treads.proofs.Nexts.{body-is, body-whole, found, σ, on-clause, goal-meant, next-meant, all-meant}
 use Rattle.treads.proofs.Going.{heap-short}
 

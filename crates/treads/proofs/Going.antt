@@ -22,11 +22,11 @@ use Rattle.heap.specs.declared.walking.Walk.{Walk}
 use Rattle.heapgoals.specs.Holding.{used, Holds}
 use Rattle.heapgoals.specs.HoldLaws.{Fore, holds-levels}
 use Rattle.heapgoals.specs.declared.Standing.{Standing}
-use Rattle.treads.specs.Trying.{laid, Fitted}
+use Rattle.attempts.specs.Trying.{laid, Fitted}
 use Rattle.treads.specs.Stepping.{Under-way, body-at, Bounded, Entered}
 use Rattle.treads.specs.declared.sizing.Span.{Span}
 use Rattle.treads.specs.declared.sizing.Bounds.{Bounds}
-use Rattle.treads.proofs.Extending.{still-whole, still-levels}
+use Rattle.attempts.proofs.Extending.{still-whole, still-levels}
 use Rattle.treads.proofs.Nexts.{next-standing, body-whole, goal, answer, goes, goal-fits, answer-fits, next-held}
 
 -- the same of the heap that is under way

@@ -34,12 +34,12 @@ use Rattle.heapgoals.specs.Holding.{listed, answer-rows, used, Leading, Holds}
 use Rattle.heapgoals.specs.ListLaws.{listed-length}
 use Rattle.heapgoals.specs.HoldLaws.{rest-rows, held-row, held-rest, held-rows, first-meant, rest-meant, answer-meant, held-all, held-low}
 use Rattle.heapgoals.specs.declared.Standing.{Standing}
-use Rattle.treads.specs.Trying.{laid, Fitted}
+use Rattle.attempts.specs.Trying.{laid, Fitted}
 use Rattle.treads.specs.Stepping.{body-at, body-rows, next-rows, first-of, Bounded, Entered}
 use Rattle.treads.specs.declared.sizing.Span.{Span}
 use Rattle.treads.specs.declared.sizing.Bounds.{Bounds}
-use Rattle.treads.proofs.Extending.{rename-length, same-rows, still-whole, same-listed, same-waiting, listed-here}
-use Rattle.treads.proofs.Laying.{top-is, whole-nodes, whole-solved, clause-same, unifier, unifier-meant, general}
+use Rattle.attempts.proofs.Extending.{rename-length, same-rows, still-whole, same-listed, same-waiting, listed-here}
+use Rattle.attempts.proofs.Laying.{top-is, whole-nodes, whole-solved, clause-same, unifier, unifier-meant, general}
 
 -- the first formula, numbered
 lead-number : (n : ℕ) (x y h b : Goal) → h ++ b ≡ number-all [] (x ++ y) → length h ≡ length x → n ≤ length (first-of x) → Leading n h

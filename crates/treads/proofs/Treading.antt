@@ -22,13 +22,13 @@ use Rattle.trials.specs.Trying.{clause-words}
 use Rattle.heapgoals.specs.Holding.{used, Holds}
 use Rattle.heapgoals.specs.HoldLaws.{Fore, holds-levels, holds-words}
 use Rattle.heapgoals.specs.declared.Standing.{Standing}
-use Rattle.treads.specs.Trying.{laid, Fitted, Sought}
+use Rattle.attempts.specs.Trying.{laid, Fitted, Sought}
 use Rattle.treads.specs.Stepping.{Under-way, Went, Treads}
 use Rattle.treads.specs.Adding.{span-words}
 use Rattle.treads.specs.declared.sizing.Span.{Span}
 use Rattle.treads.specs.declared.Tread.the-variants.{Goes}
-use Rattle.treads.specs.declared.testing.Found.the-variants as Seen
-use Rattle.treads.proofs.Extending.{part-front}
+use Rattle.attempts.specs.declared.Found.the-variants as Seen
+use Rattle.attempts.proofs.Extending.{part-front}
 
 every-front : (Q : Expr → Type 0) (g a : Goal) → Every Q (g ++ a) → Every Q g
 every-front Q [] a p = tt

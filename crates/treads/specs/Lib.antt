@@ -1,4 +1,3 @@
--- A clause tried on the heap (Trying); the step by it (Stepping); what its body adds (Adding).
-pub mod Trying
+-- The step by a clause that is tried on the heap (Stepping); what its body adds (Adding).
 pub mod Stepping
 pub mod Adding

@@ -21,7 +21,7 @@ use Rattle.bounds.specs.Places.{places-all}
 use Rattle.heapgoals.specs.Holding.{listed, waiting, answer-rows, used, Holds}
 use Rattle.heapgoals.specs.HoldLaws.{Fore, rest-rows}
 use Rattle.heapgoals.specs.declared.Standing.{Standing}
-use Rattle.treads.specs.Trying.{laid, Fitted}
+use Rattle.attempts.specs.Trying.{laid, Fitted}
 use Rattle.treads.specs.declared.sizing.Span.{Span}
 use Rattle.treads.specs.declared.sizing.Bounds.{Bounds}
 use Rattle.treads.specs.declared.Tread.{Tread}

@@ -2,9 +2,9 @@
 // the next goal and answer have room, or what the clauses say, no step.
 use crate::sizing::Span;
 use crate::sizing::sized;
-use crate::testing::Found;
-use crate::testing::first_fit;
-use crate::testing::release;
+use attempts::Found;
+use attempts::first_fit;
+use attempts::release;
 use bounds::OVER;
 use heap::past;
 use heap::walking::Walk;
@@ -31,7 +31,6 @@ ghost use Rattle.trials.specs.Trying.{clause-words};
 ghost use Rattle.treads.specs.Adding.{span-words};
 ghost use Rattle.treads.specs.Stepping.{Under-way, Entered, Went, Treads};
 
-pub mod testing; // a clause put behind what is held, and tried
 pub mod sizing; // how large goal and answer are at most
 
 // The k rows of a body in the place of the first formula.

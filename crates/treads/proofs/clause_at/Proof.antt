@@ -1,5 +1,5 @@
 use native.Mathlib.Omega.{arith}
-use Rattle.treads.proofs.Seeking.{placed-so, clause-is}
+use Rattle.attempts.proofs.Seeking.{placed-so, clause-is}
 use Rattle.treads.proofs.clause_at.Statement.{statement}
 use Rattle.treads.proofs.clause_at.Tie as tie
 

@@ -1,6 +1,6 @@
 use native.Mathlib.Omega.{arith}
 use borrow.Author.Tests.{ltb-true}
-use Rattle.treads.proofs.Telling.{not-true}
+use Rattle.attempts.proofs.Telling.{not-true}
 use Rattle.treads.proofs.has_room.Statement.{statement}
 use Rattle.treads.proofs.has_room.Tie as tie
 

@@ -1,7 +1,7 @@
 use native.Mathlib.Omega.{arith}
 use mathlib.Core.Path.{_≡_, refl, subst, _∙_}
 use Rattle.heapgoals.specs.HoldLaws.{fore-after}
-use Rattle.treads.specs.Trying.{Sought}
+use Rattle.attempts.specs.Trying.{Sought}
 use Rattle.treads.specs.Stepping.{Went}
 use Rattle.treads.proofs.Treading.{was-true, held-still, clause-few, end-inside, under-way, gone}
 use borrow.Author.Needs.{needs}
@@ -12,8 +12,8 @@ use Rattle.treads.proofs.take_step.Lts as lts
 use Rattle.treads.proofs.clause_at.Reads as clause-at-reads
 use Rattle.treads.proofs.go.Reads as go-reads
 use Rattle.treads.proofs.has_room.Reads as has-room-reads
-use Rattle.treads.proofs.testing.first_fit.Reads as first-fit-reads
-use Rattle.treads.proofs.testing.release.Reads as release-reads
+use Rattle.attempts.proofs.first_fit.Reads as first-fit-reads
+use Rattle.attempts.proofs.release.Reads as release-reads
 
 has-room-requires : tie.Need-has-room-requires
 has-room-requires c κs = let h = c .before .before .before .before .before .before .before .pre .1 .5 in omega (arith, h .inside, c .before .before .before .before .before .before .before .pre .0 .0)

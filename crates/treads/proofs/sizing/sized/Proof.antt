@@ -5,7 +5,7 @@ use lib.Seq.{length-take-le}
 use borrow.Rule.Slice.PartMut.{putMid, same-len-mid}
 use Rattle.heapgoals.specs.HoldLaws.{fore-after}
 use Rattle.treads.proofs.Summing.{known-most}
-use Rattle.treads.proofs.Undoing.{trail-long, fore-part}
+use Rattle.attempts.proofs.Undoing.{trail-long, fore-part}
 use Rattle.treads.proofs.Bounding.{bounds-hold}
 use borrow.Author.Needs.{needs}
 use Rattle.treads.proofs.sizing.sized.Statement.{statement}

@@ -15,10 +15,10 @@ use Rattle.matching.specs.Binding.{Trailed}
 use Rattle.matching.specs.Unifying.{Low, Unseen, More}
 use Rattle.trials.specs.Trying.{trail, clause-words}
 use Rattle.heapgoals.specs.declared.Standing.{Standing}
-use Rattle.treads.specs.declared.testing.Attempt.{Attempt}
-use Rattle.treads.specs.declared.testing.Attempt.the-variants.{Fits as Fits-now, Clash, Tired}
-use Rattle.treads.specs.declared.testing.Found.{Found}
-use Rattle.treads.specs.declared.testing.Found.the-variants as Found
+use Rattle.attempts.specs.declared.Attempt.{Attempt}
+use Rattle.attempts.specs.declared.Attempt.the-variants.{Fits as Fits-now, Clash, Tired}
+use Rattle.attempts.specs.declared.Found.{Found}
+use Rattle.attempts.specs.declared.Found.the-variants as Found
 
 -- the heap in use, and behind it a clause, whose variables are moved past those that are there
 abbrev pub laid : List ℕ → ℕ → List ℕ → List ℕ

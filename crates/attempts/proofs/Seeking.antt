@@ -17,11 +17,11 @@ use Rattle.trials.specs.Trying.{clause-words}
 use Rattle.heapgoals.specs.Holding.{used, Holds}
 use Rattle.heapgoals.specs.HoldLaws.{Fore, fore-same, fore-after, holds-levels, holds-words, held-row, held-first}
 use Rattle.heapgoals.specs.declared.Standing.{Standing}
-use Rattle.treads.specs.Trying.{Held-trial, Tested, Sought}
-use Rattle.treads.specs.declared.testing.Attempt.{Attempt}
-use Rattle.treads.specs.declared.testing.Attempt.the-variants.{Fits as Fits-now, Clash, Tired}
-use Rattle.treads.specs.declared.testing.Found.the-variants as Seen
-use Rattle.treads.proofs.Telling.{same-head, found-plain, passed-found}
+use Rattle.attempts.specs.Trying.{Held-trial, Tested, Sought}
+use Rattle.attempts.specs.declared.Attempt.{Attempt}
+use Rattle.attempts.specs.declared.Attempt.the-variants.{Fits as Fits-now, Clash, Tired}
+use Rattle.attempts.specs.declared.Found.the-variants as Seen
+use Rattle.attempts.proofs.Telling.{same-head, found-plain, passed-found}
 
 -- where the clause number i stands
 module _ {book shelf : List ℕ} {P : Book} (o : BookOn book shelf P) (i b e t : ℕ) (l : i < length P) (es : (n : ℕ) → i < n → b ≡ getD (every 4 256 n shelf) i 0) (ee : (n : ℕ) → i < n → e ≡ getD (every 4 257 n shelf) i 0)

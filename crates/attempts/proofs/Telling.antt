@@ -29,7 +29,7 @@ use Rattle.picking.proofs.Picks.{Passed, head-here, head-first}
 use Rattle.heap.specs.Heap.{rows, Whole, Made, Solves}
 use Rattle.heap.specs.HeapLaws.{row-inside, rows-sym, whole-node, stands-sym, first-whole, rows-first}
 use Rattle.heap.specs.Following.{Followed}
-use Rattle.treads.specs.Trying.{Told}
+use Rattle.attempts.specs.Trying.{Told}
 
 -- what meets begins with the same symbols
 module _ (θ : Subst) (α ρ β : ℕ → ℕ) where

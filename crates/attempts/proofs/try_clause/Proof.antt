@@ -1,15 +1,15 @@
 use native.Mathlib.Omega.{arith}
 use mathlib.Core.Path.{_≡_, refl}
 use Rattle.heapgoals.specs.HoldLaws.{fore-same}
-use Rattle.treads.proofs.Laying.{head-within, told-there, told-made, told-head, row-kept, lent-set-up, lent-tested}
+use Rattle.attempts.proofs.Laying.{head-within, told-there, told-made, told-head, row-kept, lent-set-up, lent-tested}
 use borrow.Author.Needs.{needs}
-use Rattle.treads.proofs.testing.try_clause.Statement.{statement}
-use Rattle.treads.proofs.testing.try_clause.Tie as tie
-use Rattle.treads.proofs.testing.try_clause.Reads as reads
-use Rattle.treads.proofs.testing.try_clause.Lts as lts
+use Rattle.attempts.proofs.try_clause.Statement.{statement}
+use Rattle.attempts.proofs.try_clause.Tie as tie
+use Rattle.attempts.proofs.try_clause.Reads as reads
+use Rattle.attempts.proofs.try_clause.Lts as lts
 use Rattle.picking.proofs.append.Reads as append-reads
-use Rattle.treads.proofs.testing.told_apart.Reads as told-apart-reads
-use Rattle.treads.proofs.testing.try_rows.Reads as try-rows-reads
+use Rattle.attempts.proofs.told_apart.Reads as told-apart-reads
+use Rattle.attempts.proofs.try_rows.Reads as try-rows-reads
 
 sub-told-apart : tie.Need-sub-told-apart
 sub-told-apart c = search needs

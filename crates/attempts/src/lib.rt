@@ -30,7 +30,7 @@ ghost use Rattle.words.specs.Held.{ClauseIn, BookOn};
 ghost use Rattle.heap.specs.Heap.{Made, Whole};
 ghost use Rattle.heapgoals.specs.Holding.{Holds};
 ghost use Rattle.heapgoals.specs.HoldLaws.{Fore};
-ghost use Rattle.treads.specs.Trying.{Set-up, Undoable, Attempted, Told, Tested, Sought};
+ghost use Rattle.attempts.specs.Trying.{Set-up, Undoable, Attempted, Told, Tested, Sought};
 
 // The two are equal now, with so many goal variables on the trail; or they can't be made equal; or nothing is known. Only where they are equal is more bound than before.
 pub enum Attempt {

@@ -1,7 +1,7 @@
-use Rattle.treads.proofs.Undoing.{restored}
+use Rattle.attempts.proofs.Undoing.{restored}
 use borrow.Author.Needs.{needs}
-use Rattle.treads.proofs.testing.release.Statement.{statement}
-use Rattle.treads.proofs.testing.release.Tie as tie
+use Rattle.attempts.proofs.release.Statement.{statement}
+use Rattle.attempts.proofs.release.Tie as tie
 
 pub release-spec : {M : Type 1} → statement M
 release-spec =

@@ -16,7 +16,7 @@ use Rattle.trials.specs.Trying.{trail}
 use Rattle.heapgoals.specs.Rows.{Cleared}
 use Rattle.heapgoals.specs.HoldLaws.{Fore}
 use Rattle.heapgoals.specs.declared.Standing.{Standing}
-use Rattle.treads.specs.Trying.{Set-up, Undoable}
+use Rattle.attempts.specs.Trying.{Set-up, Undoable}
 
 -- what is undone and cleared is as it was
 pub restored : {before cells tables mid z : List ℕ} {base count : ℕ} → Undoable before cells tables base count → length mid ≡ length cells → ((v : ℕ) → bound cells v ≡ 0 → bound mid v ≡ 0)

@@ -3,16 +3,16 @@ use mathlib.Core.Path.{_≡_, sym as inv, subst, _∙_}
 use lib.ListN.{length, drop, length-drop}
 use lib.Seq.{length-take-le}
 use Rattle.matching.specs.Unifying.{Unified}
-use Rattle.treads.proofs.Undoing.{start-few, begins, trail-long, trail-back, undoable, fore-part}
+use Rattle.attempts.proofs.Undoing.{start-few, begins, trail-long, trail-back, undoable, fore-part}
 use borrow.Rule.Slice.PartMut.{same-len-mid}
 use borrow.Author.Needs.{needs}
-use Rattle.treads.proofs.testing.try_rows.Statement.{statement}
-use Rattle.treads.proofs.testing.try_rows.Tie as tie
-use Rattle.treads.proofs.testing.try_rows.Reads as reads
-use Rattle.treads.proofs.testing.try_rows.Lts as lts
+use Rattle.attempts.proofs.try_rows.Statement.{statement}
+use Rattle.attempts.proofs.try_rows.Tie as tie
+use Rattle.attempts.proofs.try_rows.Reads as reads
+use Rattle.attempts.proofs.try_rows.Lts as lts
 use Rattle.matching.proofs.unifying.unify.Reads as unify-reads
-use Rattle.treads.proofs.testing.begun.Reads as begun-reads
-use Rattle.treads.proofs.testing.release.Reads as release-reads
+use Rattle.attempts.proofs.begun.Reads as begun-reads
+use Rattle.attempts.proofs.release.Reads as release-reads
 
 begun-requires : tie.Need-begun-requires
 begun-requires c κs = search needs

@@ -1,10 +1,10 @@
 use native.Mathlib.Omega.{arith}
 use Rattle.heap.specs.HeapLaws.{row-inside}
 use Prim.Native.Nat.{_-_}
-use Rattle.treads.proofs.Telling.{argument-inside, head-long, told, some-arity, not-true, differ, followed-next}
+use Rattle.attempts.proofs.Telling.{argument-inside, head-long, told, some-arity, not-true, differ, followed-next}
 use borrow.Author.Needs.{needs}
-use Rattle.treads.proofs.testing.told_apart.Statement.{statement}
-use Rattle.treads.proofs.testing.told_apart.Tie as tie
+use Rattle.attempts.proofs.told_apart.Statement.{statement}
+use Rattle.attempts.proofs.told_apart.Tie as tie
 
 pub told-apart-spec : {M : Type 1} → statement M
 told-apart-spec =

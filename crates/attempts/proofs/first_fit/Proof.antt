@@ -3,13 +3,13 @@ use native.Mathlib.Omega.{arith}
 use mathlib.Core.Path.{_≡_, sym as inv, ap, _∙_}
 use lib.ListN.{length, take, drop}
 use Rattle.heapgoals.specs.HoldLaws.{fore-after}
-use Rattle.treads.proofs.Seeking.{Seeking, at-below, placed, clause-is, first-word, seek-start, held-now, same-word, found-here, none-here, kept-clash, kept-tired, seek-again}
+use Rattle.attempts.proofs.Seeking.{Seeking, at-below, placed, clause-is, first-word, seek-start, held-now, same-word, found-here, none-here, kept-clash, kept-tired, seek-again}
 use borrow.Author.Needs.{needs}
-use Rattle.treads.proofs.testing.first_fit.Statement.{statement}
-use Rattle.treads.proofs.testing.first_fit.Tie as tie
-use Rattle.treads.proofs.testing.first_fit.Reads as reads
-use Rattle.treads.proofs.testing.first_fit.Lts as lts
-use Rattle.treads.proofs.testing.try_clause.Reads as try-clause-reads
+use Rattle.attempts.proofs.first_fit.Statement.{statement}
+use Rattle.attempts.proofs.first_fit.Tie as tie
+use Rattle.attempts.proofs.first_fit.Reads as reads
+use Rattle.attempts.proofs.first_fit.Lts as lts
+use Rattle.attempts.proofs.try_clause.Reads as try-clause-reads
 use Rattle.words.proofs.lists.find.Reads as find-reads
 use Rattle.words.proofs.lists.find_next.Reads as find-next-reads
 use Rattle.words.proofs.shelf.clauses.Reads as clauses-reads

@@ -33,11 +33,11 @@ use Rattle.paths.specs.Naming.{α, stood, near}
 use Rattle.heapgoals.specs.Holding.{used, Holds}
 use Rattle.heapgoals.specs.HoldLaws.{held-row, held-first, first-meant, rest-meant, answer-meant, held-all, held-low}
 use Rattle.heapgoals.specs.declared.Standing.{Standing}
-use Rattle.treads.specs.Trying.{laid, Set-up, Attempted, Told, Tested}
-use Rattle.treads.specs.declared.testing.Attempt.{Attempt}
-use Rattle.treads.specs.declared.testing.Attempt.the-variants.{Fits as Fits-now, Clash, Tired}
-use Rattle.treads.proofs.Extending.{part-front, same-rows, still-whole, still-made, still-solved}
-use Rattle.treads.proofs.Telling.{told-none}
+use Rattle.attempts.specs.Trying.{laid, Set-up, Attempted, Told, Tested}
+use Rattle.attempts.specs.declared.Attempt.{Attempt}
+use Rattle.attempts.specs.declared.Attempt.the-variants.{Fits as Fits-now, Clash, Tired}
+use Rattle.attempts.proofs.Extending.{part-front, same-rows, still-whole, still-made, still-solved}
+use Rattle.attempts.proofs.Telling.{told-none}
 
 -- variables from `base` on
 in-past : (base : ℕ) (e : Expr) (v : ℕ) → In v (rename (λ x. x + base) e) → base ≤ v

@@ -1,0 +1,2 @@
+-- A clause tried on the heap.
+pub mod Trying
