@@ -33,10 +33,10 @@ abbrev pub start : Standing → ℕ → Trial
 start s k = record { base = s .base; start = s .top; count = 0; fuel = k }
 
 abbrev pub Starts : Standing → Trial → Type 0
-Starts s t = (k : ℕ) × (k ≤ 8448) × (t ≡ start s k)
+Starts s t = (k : ℕ) × (k ≤ 8224) × (t ≡ start s k)
 
 pub start-few : (s : Standing) (t : Trial) → Starts s t → (t .fuel ≤ 8448) × (t .count + t .fuel ≤ 8448)
-start-few s t (k, l, e) = rw e (l, omega (arith, l))
+start-few s t (k, l, e) = rw e (omega (arith, l), omega (arith, l))
 
 pub begins : {heap cells : List ℕ} {s : Standing} → Set-up heap cells s → (t : Trial) → Starts s t → Begun heap cells t
 begins x t (k, l, e) = rw e (record { none = refl; inner = x .inner; low = x .low })

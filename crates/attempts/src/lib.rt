@@ -23,7 +23,7 @@ ghost use Prim.Native.Nat.{ℕ, _+_, _<_, _≤_};
 ghost use lib.ListN.{length, getD, take};
 ghost use Rattle.terms.specs.Node.{Expr};
 ghost use Rattle.terms.specs.Row.{Row};
-ghost use Rattle.search.specs.Next.{Clause, Book, Goal, clause-at};
+ghost use Rattle.search.specs.Next.{Clause, Book, Goal};
 ghost use Rattle.words.specs.Word.{Plain, Valids, nodes};
 ghost use Rattle.words.specs.Columns.{CELLS, WORDS};
 ghost use Rattle.words.specs.Held.{ClauseIn, BookOn};
@@ -42,7 +42,7 @@ pub enum Attempt {
 // It may visit twice as many nodes as the goal has, and 32.
 fn begun(s: Standing) -> Trial
     requires { ⌜ s .nodes ≤ 4096 ⌝ }
-    ensures { λ t. ⌜ ((k : ℕ) × (k ≤ 8448) × (t ≡ record { base = s .base; start = s .top; count = 0; fuel = k })) ⌝ }
+    ensures { λ t. ⌜ ((k : ℕ) × (k ≤ 8224) × (t ≡ record { base = s .base; start = s .top; count = 0; fuel = k })) ⌝ }
 {
     Trial {
         base: s.base,

@@ -117,7 +117,7 @@ fn go_on(
     ensures free { λ _. ⌜ Free (now (cells .exit)) ⌝ }
 {
     let mut levels = [0u16; 1028];
-    let mut stack = [0u16; 387];
+    let mut stack = [0u16; 1411];
     let place = start.place;
     let detector = place.detector;
     let since = detector.step;

@@ -4,7 +4,7 @@ use native.Mathlib.Omega.{arith}
 use mathlib.Core.Path.{_≡_, refl, sym as inv, ap, ap₂, _∙_, subst}
 use mathlib.Core.Logic.{_⊎_, inl, inr}
 use mathlib.Core.List.{List, [], _∷_, _++_, map, map-append, append-nil, append-assoc}
-use lib.ListN.{length, getD, take, drop, length-append, length-map, length-drop}
+use lib.ListN.{length, getD, take, drop, length-map, length-drop}
 use lib.Seq.{take-at, drop-at, length-take-le}
 use Rattle.terms.specs.Node.{var, sym, Expr}
 use Rattle.terms.specs.Subst.{In-any, Subst, Proper, apply, itself}
@@ -22,6 +22,7 @@ use Rattle.heap.specs.Heap.{rows, bound, Solved}
 use Rattle.heap.specs.SolvedLaws.{solved-one}
 use Rattle.trials.specs.Trying.{trail}
 use Rattle.bounds.specs.Places.{places, places-all}
+use Rattle.figures.specs.Figures.{first-of}
 use Rattle.bounds.specs.Thrift.{fresh, Thrifty, Kept}
 use Rattle.bounds.specs.Sizing.{Known, Grown}
 use Rattle.bounds.specs.WeighLaws.{length-apply}
@@ -33,7 +34,7 @@ use Rattle.heapgoals.specs.ListLaws.{listed-flat}
 use Rattle.heapgoals.specs.HoldLaws.{rest-rows, held-rows, held-first, first-meant, rest-meant, answer-meant, held-all, held-low, held-free}
 use Rattle.heapgoals.specs.declared.Standing.{Standing}
 use Rattle.attempts.specs.Trying.{laid, Fitted}
-use Rattle.treads.specs.Stepping.{Under-way, body-at, body-rows, next-rows, first-of, Bounded}
+use Rattle.treads.specs.Stepping.{Under-way, body-at, body-rows, next-rows, Bounded}
 use Rattle.treads.specs.Adding.{span-words, head-long, Thrifty-adds, Counted-adds, Adds, Summed}
 use Rattle.treads.specs.declared.sizing.Span.{Span}
 use Rattle.treads.specs.declared.sizing.Added.{Added}
@@ -94,11 +95,8 @@ module _ {words before levels : List ℕ} {s : Standing} {f : Expr} {g a : Goal}
   first-words : (n : ℕ) → n ≡ length (first-of (d .body)) → heap-nodes (take n (drop (head-long c) clause)) ≡ first-of (d .body)
   first-words n e = let (x, is) = first-flat (d .body) in nodes-take n (drop (head-long c) clause) ∙ ap (take n) (body-words ∙ is) ∙ take-at (first-of (d .body)) x n (inv e)
 
-  first-long : length (first-of (body-rows heap s c)) ≡ length (first-of (d .body))
+  pub first-long : length (first-of (body-rows heap s c)) ≡ length (first-of (d .body))
   first-long = ap (λ l. length (first-of l)) (body-is h clause c d q room short) ∙ ap length (first-map (rename past) refl (d .body)) ∙ rename-length past (first-of (d .body))
-
-  pub first-fits : head-long c + length (first-of (body-rows heap s c)) ≤ length clause
-  first-fits = let (x, is) = first-flat (d .body) in omega (arith, first-long, head-length clause (c .head - c .start) (c .bodies) d q, ap length is, length-append (first-of (d .body)) x)
 
   -- goal and answer as they stand
   long-goal : length (f ∷ g) ≡ length (F ∷ G)
@@ -226,8 +224,8 @@ module _ {book words before levels : List ℕ} {s : Standing} {c : Span} {heap�
   words-long : length (span-words book c) ≡ c .end - c .start
   words-long = length-take-le (c .end - c .start) (drop (c .start) book) (omega (arith, length-drop (c .start) book, u .placed .within))
 
-  pub first-within : head-long c + length (first-of (body-rows heap′ s c)) ≤ length (span-words book c)
-  first-within = subst (λ l. head-long c + length (first-of (body-rows l s c)) ≤ length (span-words book c)) (inv (u .is)) (first-fits (u .held) (span-words book c) c d (u .placed .clause) (u .room) (heap-short u) words-long (u .placed .begins, u .placed .ends))
+  pub first-is : c .figure .first ≡ length (first-of (body-rows heap′ s c))
+  first-is = u .figure .leads d (u .placed .clause) ∙ inv (first-long (u .held) (span-words book c) c d (u .placed .clause) (u .room) (heap-short u) words-long (u .placed .begins, u .placed .ends)) ∙ ap (λ l. length (first-of (body-rows l s c))) (inv (u .is))
 
   pub bounds-hold : (grown : Size) → Grown heap′ cells (trail tables) count 4096 grown → (more : Added) → Adds (span-words book c) heap′ cells s c (length (first-of (body-rows heap′ s c))) more → (r : Bounds) → Summed s more grown r → Bounded heap′ cells levels s c r
   bounds-hold grown y more x r sum =

@@ -44,7 +44,7 @@ module _ {book words before levels : List ℕ} {s : Standing} {c : Span} {heap�
   heap-short = omega (arith, u .short, u .placed .clause .size)
 
   pub under-way-fore : {levels′ : List ℕ} → Fore levels levels′ → Under-way book words before levels′ s c heap′ cells tables count f g a d
-  under-way-fore x = record { held = holds-levels x (u .held); placed = u .placed; is = u .is; fitted = u .fitted; room = u .room; short = u .short }
+  under-way-fore x = record { held = holds-levels x (u .held); placed = u .placed; is = u .is; figure = u .figure; fitted = u .fitted; room = u .room; short = u .short }
 
   abbrev the-heap : List ℕ
   the-heap = laid (used words s) (s .base) there-words

@@ -30,12 +30,13 @@ use Rattle.heap.specs.declared.walking.Walk.{Walk}
 use Rattle.paths.specs.Naming.{held-step}
 use Rattle.bounds.specs.Places.{places-all}
 use Rattle.bounds.specs.GoalLaws.{numbered-nodes, places-all-number}
+use Rattle.figures.specs.Figures.{first-of}
 use Rattle.heapgoals.specs.Holding.{listed, answer-rows, used, Leading, Holds}
 use Rattle.heapgoals.specs.ListLaws.{listed-length}
 use Rattle.heapgoals.specs.HoldLaws.{rest-rows, held-row, held-rest, held-rows, first-meant, rest-meant, answer-meant, held-all, held-low}
 use Rattle.heapgoals.specs.declared.Standing.{Standing}
 use Rattle.attempts.specs.Trying.{laid, Fitted}
-use Rattle.treads.specs.Stepping.{body-at, body-rows, next-rows, first-of, Bounded, Entered}
+use Rattle.treads.specs.Stepping.{body-at, body-rows, next-rows, Bounded, Entered}
 use Rattle.treads.specs.declared.sizing.Span.{Span}
 use Rattle.treads.specs.declared.sizing.Bounds.{Bounds}
 use Rattle.attempts.proofs.Extending.{rename-length, same-rows, still-whole, same-listed, same-waiting, listed-here}

@@ -4,9 +4,10 @@ use native.Mathlib.Omega.{arith}
 use mathlib.Core.Path.{_≡_, refl, sym as inv, ap, _∙_, subst}
 use mathlib.Core.Bool.{Bool, not, true, false}
 use mathlib.Core.Option.{some}
-use mathlib.Core.List.{List, [], _∷_, _++_}
-use lib.ListN.{length, take, drop, length-drop}
-use lib.Seq.{length-take-le, take-take}
+use mathlib.Core.List.{List, [], _∷_, _++_, append-nil}
+use lib.ListN.{length, take, drop, length-append, length-drop}
+use lib.Seq.{length-take-le, take-take, take-at, drop-at}
+use borrow.Rule.Slice.PartMut.{putMid, same-len-mid}
 use Rattle.terms.specs.Node.{Expr}
 use Rattle.terms.specs.Row.{Row, Every, Formulas}
 use Rattle.search.specs.Next.{Clause, Book, Goal, First, Resolved, clause-at}
@@ -19,12 +20,13 @@ use Rattle.words.specs.HeldLaws.{clauses-of}
 use Rattle.picking.specs.Picking.{Picked}
 use Rattle.applying.specs.Applying.{Onward}
 use Rattle.trials.specs.Trying.{clause-words}
+use Rattle.figures.specs.Figures.{Figure-of}
 use Rattle.heapgoals.specs.Holding.{used, Holds}
 use Rattle.heapgoals.specs.HoldLaws.{Fore, holds-levels, holds-words}
 use Rattle.heapgoals.specs.declared.Standing.{Standing}
 use Rattle.attempts.specs.Trying.{laid, Fitted, Sought}
 use Rattle.treads.specs.Stepping.{Under-way, Went, Treads}
-use Rattle.treads.specs.Adding.{span-words}
+use Rattle.treads.specs.Adding.{span-words, head-long}
 use Rattle.treads.specs.declared.sizing.Span.{Span}
 use Rattle.treads.specs.declared.Tread.the-variants.{Goes}
 use Rattle.attempts.specs.declared.Found.the-variants as Seen
@@ -55,7 +57,7 @@ module _ {book shelf : List ℕ} {P : Book} (o : BookOn book shelf P) (f : Expr)
 
 module _ {book shelf words cells levels : List ℕ} {P : Book} {s : Standing} {f : Expr} {g a : Goal} (o : BookOn book shelf P) (h : Holds words cells levels s (f ∷ g) a) (room : s .base ≤ 8192) (enough : s .top + 256 ≤ length words) (most : length words ≤ 8448)
     {words′ cells′ tables levels′ : List ℕ} (long : length words′ ≡ length words) (x : Fore levels levels′) {i count : ℕ} (t : Sought P f book shelf (take (s .top) words) words′ cells s cells′ tables (Seen.Clause i count))
-    {c : Span} (p : Placed book (c .start) (c .head) (c .end) (c .bodies) (clause-at P i)) (is : span-words book c ≡ clause-words book shelf (length P) i) where
+    (c : Span) (p : Placed book (c .start) (c .head) (c .end) (c .bodies) (clause-at P i)) (is : span-words book c ≡ clause-words book shelf (length P) i) where
   abbrev end : ℕ
   end = s .top + (c .end - c .start)
 
@@ -71,32 +73,60 @@ module _ {book shelf words cells levels : List ℕ} {P : Book} {s : Standing} {f
   lent : take (end - 0) (drop 0 words′) ≡ laid (used words s) (s .base) (span-words book c)
   lent = part-front end words′ ∙ ap (λ n. take n words′) (ap (λ n. s .top + n) (inv clause-long)) ∙ subst (λ l. take (s .top + length l) words′ ≡ laid (used words s) (s .base) l) (inv is) (t .2 .front)
 
-  pub under-way : Under-way book words cells levels′ s c (take (end - 0) (drop 0 words′)) cells′ tables count f g a (clause-at P i)
-  under-way = record {
-    held = holds-levels x h;
-    placed = p;
-    is = lent;
-    fitted = subst (λ y. Fitted y cells s cells′ tables count) (ap (laid (used words s) (s .base)) (inv is) ∙ inv lent) (t .2 .fitted);
-    room = room;
-    short = omega (arith, enough, most);
-  }
-
   heap-long : length (take (end - 0) (drop 0 words′)) ≡ end
   heap-long = ap length (part-front end words′) ∙ length-take-le end words′ end-inside
 
-  pub gone : {levels″ : List ℕ} {t′ : Standing} → Went book levels′ s c (take (end - 0) (drop 0 words′)) cells′ tables count levels″ (Goes t′) → Treads P f g a words′ cells′ levels″ s (Goes t′)
-  gone {levels″} {t′} (top, y) =
-      let (n, b, on, fit, little, held) = y words cells f g a (clause-at P i) under-way in
-      let same = answer-next o f g a (h .formulas) (t .0) (t .1) n b on in (
-        n,
-        goal-next o f g a (h .formulas) (t .0) (t .1) n (on .goal),
-        fit,
-        ap small same ∙ little,
-        subst (Holds words′ cells′ levels″ t′ n) (inv same) (holds-words (front top) (omega (arith, top, heap-long, end-inside)) held),
-      )
-    where
-      front : t′ .top ≡ length (take (end - 0) (drop 0 words′)) → take (t′ .top) words′ ≡ take (t′ .top) (take (end - 0) (drop 0 words′))
-      front top = rw (top ∙ heap-long) (inv (take-take end end words′ (omega arith)) ∙ ap (take end) (inv (part-front end words′)))
+  module _ (figure : Figure-of (span-words book c) (head-long c) (c .bodies) (c .figure)) where
+    pub under-way : Under-way book words cells levels′ s c (take (end - 0) (drop 0 words′)) cells′ tables count f g a (clause-at P i)
+    under-way = record {
+      held = holds-levels x h;
+      placed = p;
+      is = lent;
+      figure = figure;
+      fitted = subst (λ y. Fitted y cells s cells′ tables count) (ap (laid (used words s) (s .base)) (inv is) ∙ inv lent) (t .2 .fitted);
+      room = room;
+      short = omega (arith, enough, most);
+    }
+
+    pub gone : {levels″ : List ℕ} {t′ : Standing} → Went levels′ s c (take (end - 0) (drop 0 words′)) cells′ tables count levels″ (Goes t′) → Treads P f g a words′ cells′ levels″ s (Goes t′)
+    gone {levels″} {t′} (top, y) =
+        let (n, b, on, fit, little, held) = y book words cells f g a (clause-at P i) under-way in
+        let same = answer-next o f g a (h .formulas) (t .0) (t .1) n b on in (
+          n,
+          goal-next o f g a (h .formulas) (t .0) (t .1) n (on .goal),
+          fit,
+          ap small same ∙ little,
+          subst (Holds words′ cells′ levels″ t′ n) (inv same) (holds-words (front top) (omega (arith, top, heap-long, end-inside)) held),
+        )
+      where
+        front : t′ .top ≡ length (take (end - 0) (drop 0 words′)) → take (t′ .top) words′ ≡ take (t′ .top) (take (end - 0) (drop 0 words′))
+        front top = rw (top ∙ heap-long) (inv (take-take end end words′ (omega arith)) ∙ ap (take end) (inv (part-front end words′)))
+
+-- the figures behind the trial's part of the stack: what the trial leaves of them, as they are lent, and when they are back
+module _ (stack part : List ℕ) (long : length stack ≡ 1411) (same : length part ≡ length (take 387 stack)) where
+  part-long : length part ≡ 387
+  part-long = same ∙ length-take-le 387 stack (omega (arith, long))
+
+  behind-long : length (drop 387 stack) ≡ 1024
+  behind-long = omega (arith, length-drop 387 stack, long)
+
+  pub figures-left : drop 387 (part ++ drop 387 stack) ≡ drop 387 stack
+  figures-left = drop-at part (drop 387 stack) 387 part-long
+
+  pub figures-lent : take 1024 (drop 387 (part ++ drop 387 stack)) ≡ drop 387 stack
+  figures-lent = ap (take 1024) figures-left ∙ (ap (take 1024) (inv (append-nil (drop 387 stack))) ∙ take-at (drop 387 stack) [] 1024 behind-long)
+
+  pub lent-long : length (take 1024 (drop 387 (part ++ drop 387 stack))) ≡ 1024
+  lent-long = ap length figures-lent ∙ behind-long
+
+  module _ (figures : List ℕ) (as-long : length figures ≡ length (take 1024 (drop 387 (part ++ drop 387 stack)))) where
+    pub figures-back : drop 387 (putMid 387 1024 (part ++ drop 387 stack) figures) ≡ figures
+    figures-back =
+        drop-at (take 387 (part ++ drop 387 stack)) (figures ++ drop 1024 (drop 387 (part ++ drop 387 stack))) 387 (length-take-le 387 (part ++ drop 387 stack) (omega (arith, length-append part (drop 387 stack), part-long)))
+        ∙ ap (λ e. figures ++ e) (ap (drop 1024) (figures-left ∙ inv (append-nil (drop 387 stack))) ∙ drop-at (drop 387 stack) [] 1024 behind-long) ∙ append-nil figures
+
+    pub stack-long : length (putMid 387 1024 (part ++ drop 387 stack) figures) ≡ length stack
+    stack-long = same-len-mid 387 1024 (part ++ drop 387 stack) figures as-long ∙ omega (arith, length-append part (drop 387 stack), part-long, behind-long, long)
 
 pub was-true : {b : Bool} → not b ≡ false → b ≡ true
 was-true {b} e = go b e

@@ -3,7 +3,7 @@ use Prim.Native.Nat.{ℕ, _+_, _-_, _≤_}
 use mathlib.Core.Path.{_≡_}
 use mathlib.Core.Bool.{true}
 use mathlib.Core.Option.{some}
-use mathlib.Core.List.{List, [], _∷_, _++_, map}
+use mathlib.Core.List.{List, _∷_, _++_, map}
 use lib.ListN.{length, take, drop}
 use Rattle.terms.specs.Node.{Expr}
 use Rattle.terms.specs.Subst.{Subst, apply}
@@ -18,6 +18,7 @@ use Rattle.heap.specs.Heap.{Solved}
 use Rattle.heap.specs.Walking.{Ready}
 use Rattle.heap.specs.declared.walking.Walk.{Walk}
 use Rattle.bounds.specs.Places.{places-all}
+use Rattle.figures.specs.Figures.{first-of, Figure-of}
 use Rattle.heapgoals.specs.Holding.{listed, waiting, answer-rows, used, Holds}
 use Rattle.heapgoals.specs.HoldLaws.{Fore, rest-rows}
 use Rattle.heapgoals.specs.declared.Standing.{Standing}
@@ -32,6 +33,7 @@ pub record Under-way (book words before levels : List ℕ) (s : Standing) (c : S
   pub held : Holds words before levels s (f ∷ g) a
   pub placed : Placed book (c .start) (c .head) (c .end) (c .bodies) d
   pub is : heap ≡ laid (used words s) (s .base) (take (c .end - c .start) (drop (c .start) book))
+  pub figure : Figure-of (take (c .end - c .start) (drop (c .start) book)) (c .head - c .start) (c .bodies) (c .figure)
   pub fitted : Fitted heap before s cells tables count
   pub room : s .base ≤ 8192
   pub short : s .top + 256 ≤ 8448
@@ -46,10 +48,6 @@ body-rows heap s c = listed heap (c .bodies) (body-at s c)
 
 abbrev pub next-rows : List ℕ → List ℕ → Standing → Span → Goal
 next-rows heap levels s c = body-rows heap s c ++ rest-rows heap levels s
-
-abbrev pub first-of : Goal → Expr
-first-of [] = []
-first-of (f ∷ g) = f
 
 -- what the next goal and answer stand for is within the bounds r, there is room for it, and all variables are below a number
 pub record Bounded (heap cells levels : List ℕ) (s : Standing) (c : Span) (r : Bounds) : Type 0 where
@@ -71,10 +69,10 @@ pub record Entered (heap levels : List ℕ) (s : Standing) (p k : ℕ) (levels�
   pub long : length levels′ ≡ length levels
 
 -- no step, or the step by the clause d
-abbrev pub Went : List ℕ → List ℕ → Standing → Span → List ℕ → List ℕ → List ℕ → ℕ → List ℕ → Tread → Type 0
-Went book levels s c heap cells tables count levels′ Stays = Fore levels levels′
-Went book levels s c heap cells tables count levels′ (Goes t) =
-    (t .top ≡ length heap) × ((words before : List ℕ) (f : Expr) (g a : Goal) (d : Clause) → Under-way book words before levels s c heap cells tables count f g a d
+abbrev pub Went : List ℕ → Standing → Span → List ℕ → List ℕ → List ℕ → ℕ → List ℕ → Tread → Type 0
+Went levels s c heap cells tables count levels′ Stays = Fore levels levels′
+Went levels s c heap cells tables count levels′ (Goes t) =
+    (t .top ≡ length heap) × ((book words before : List ℕ) (f : Expr) (g a : Goal) (d : Clause) → Under-way book words before levels s c heap cells tables count f g a d
     → (h : Goal) × (b : Goal) × Onward f g a d h b × (fits h ≡ true) × (small b ≡ true) × Holds heap cells levels′ t h b)
 
 -- what is held is held still; or the next goal and answer are held, and have room

@@ -6,6 +6,7 @@ use attempts::Found;
 use attempts::first_fit;
 use attempts::release;
 use bounds::OVER;
+use figures::figure_at;
 use heap::past;
 use heap::walking::Walk;
 use heap::walking::settled;
@@ -15,10 +16,10 @@ use words::shelf::HEAD;
 use words::shelf::START;
 use words::shelf::entry;
 ghost use mathlib.Core.Path.{_≡_};
-ghost use mathlib.Core.Bool.{Bool, true};
+ghost use mathlib.Core.Bool.{true};
 ghost use mathlib.Core.List.{List, _∷_};
 ghost use Prim.Native.Nat.{ℕ, _+_, _<_, _≤_};
-ghost use lib.ListN.{length};
+ghost use lib.ListN.{length, drop};
 ghost use Rattle.terms.specs.Node.{Expr};
 ghost use Rattle.search.specs.Next.{Clause, Book, Goal, clause-at};
 ghost use Rattle.words.specs.Word.{Valids};
@@ -26,9 +27,10 @@ ghost use Rattle.words.specs.Columns.{CELLS, WORDS};
 ghost use Rattle.words.specs.Held.{Placed, BookOn};
 ghost use Rattle.heap.specs.Heap.{Whole};
 ghost use Rattle.heap.specs.Walking.{Levels};
+ghost use Rattle.figures.specs.Figures.{Figure-of, Figured};
 ghost use Rattle.heapgoals.specs.Holding.{Holds};
 ghost use Rattle.trials.specs.Trying.{clause-words};
-ghost use Rattle.treads.specs.Adding.{span-words};
+ghost use Rattle.treads.specs.Adding.{span-words, head-long};
 ghost use Rattle.treads.specs.Stepping.{Under-way, Entered, Went, Treads};
 
 pub mod sizing; // how large goal and answer are at most
@@ -75,7 +77,6 @@ pub enum Tread {
 
 // By the clause at c, whose trial the heap holds, with so many goal variables bound.
 fn go(
-    book: &[u32],
     heap: &[u32],
     cells: &[u16],
     rows: &[u16],
@@ -84,14 +85,14 @@ fn go(
     c: Span,
     count: usize,
 ) -> Tread
-    requires { ⌜ ((words : List ℕ) × (before : List ℕ) × (f : Expr) × (g : Goal) × (a : Goal) × (d : Clause) × Under-way (now book) words before (now levels) s c (now heap) (now cells) (now rows) count f g a d) × (length (now rows) ≡ CELLS) × (s .depth < 256) ⌝ }
-    ensures { λ r. ⌜ Went (now (book .entry)) (now (levels .entry)) s c (now (heap .entry)) (now (cells .entry)) (now (rows .entry)) count (now (levels .exit)) r ⌝ }
+    requires { ⌜ ((book : List ℕ) × (words : List ℕ) × (before : List ℕ) × (f : Expr) × (g : Goal) × (a : Goal) × (d : Clause) × Under-way book words before (now levels) s c (now heap) (now cells) (now rows) count f g a d) × (length (now rows) ≡ CELLS) × (s .depth < 256) ⌝ }
+    ensures { λ r. ⌜ Went (now (levels .entry)) s c (now (heap .entry)) (now (cells .entry)) (now (rows .entry)) count (now (levels .exit)) r ⌝ }
 {
     let formulas = s.formulas - 1 + c.bodies;
     if 512 < formulas {
         return Tread::Stays;
     }
-    let size = sized(book, heap, cells, rows, levels, s, c, count);
+    let size = sized(heap, cells, rows, levels, s, c, count);
     if size.nodes == OVER {
         return Tread::Stays;
     }
@@ -113,15 +114,24 @@ fn go(
     })
 }
 
-fn clause_at(shelf: &[u16], i: usize) -> Span
-    requires { ⌜ ((book : List ℕ) × (P : Book) × BookOn book (now shelf) P × (i < length P)) ⌝ }
-    ensures { λ r. ⌜ ((book : List ℕ) (P : Book) → BookOn book (now (shelf .entry)) P → i < length P → Placed book (r .start) (r .head) (r .end) (r .bodies) (clause-at P i) × (span-words book r ≡ clause-words book (now (shelf .entry)) (length P) i)) ⌝ }
+// The clause number i, with its figure.
+fn clause_at(book: &[u32], shelf: &[u16], figures: &mut [u16], i: usize) -> Span
+    requires { ⌜ ((P : Book) × BookOn (now book) (now shelf) P × (i < length P)) × Figured (now book) (now shelf) (now figures) × (length (now figures) ≡ 1024) ⌝ }
+    ensures placed { λ r. ⌜ ((P : Book) → BookOn (now (book .entry)) (now (shelf .entry)) P → i < length P → Placed (now (book .entry)) (r .start) (r .head) (r .end) (r .bodies) (clause-at P i) × (span-words (now (book .entry)) r ≡ clause-words (now (book .entry)) (now (shelf .entry)) (length P) i)) ⌝ }
+    ensures figure { λ r. ⌜ Figure-of (span-words (now (book .entry)) r) (head-long r) (r .bodies) (r .figure) ⌝ }
+    ensures figured { λ _. ⌜ Figured (now (book .entry)) (now (shelf .entry)) (now (figures .exit)) ⌝ }
 {
+    let start = entry(shelf, START, i);
+    let head = entry(shelf, HEAD, i);
+    let end = entry(shelf, START, i + 1);
+    let bodies = entry(shelf, BODY, i);
+    let figure = figure_at(&book[start..end], head - start, bodies, figures, i);
     Span {
-        start: entry(shelf, START, i),
-        head: entry(shelf, HEAD, i),
-        end: entry(shelf, START, i + 1),
-        bodies: entry(shelf, BODY, i),
+        start,
+        head,
+        end,
+        bodies,
+        figure,
     }
 }
 
@@ -139,6 +149,7 @@ fn has_room(s: Standing, length: usize) -> bool
     s.depth < 256
 }
 
+// The first 387 words of the stack are a trial's, and those behind them the figures of the book's clauses.
 pub fn take_step(
     book: &[u32],
     shelf: &[u16],
@@ -149,19 +160,29 @@ pub fn take_step(
     stack: &mut [u16],
     s: Standing,
 ) -> Tread
-    requires { ⌜ (length (now words) ≤ WORDS) × (length (now rows) ≡ CELLS) × (length (now stack) ≡ 387) ⌝ }
+    requires { ⌜ (length (now words) ≤ WORDS) × (length (now rows) ≡ CELLS) × (length (now stack) ≡ 1411) × Figured (now book) (now shelf) (drop 387 (now stack)) ⌝ }
     requires { ⌜ ((P : Book) × (f : Expr) × (g : Goal) × (a : Goal) × BookOn (now book) (now shelf) P × Holds (now words) (now cells) (now levels) s (f ∷ g) a) ⌝ }
-    ensures { λ r. ⌜ ((P : Book) (f : Expr) (g a : Goal) → BookOn (now (book .entry)) (now (shelf .entry)) P → Holds (now (words .entry)) (now (cells .entry)) (now (levels .entry)) s (f ∷ g) a → Treads P f g a (now (words .exit)) (now (cells .exit)) (now (levels .exit)) s r) ⌝ }
+    ensures figured { λ _. ⌜ Figured (now (book .entry)) (now (shelf .entry)) (drop 387 (now (stack .exit))) ⌝ }
+    ensures treads { λ r. ⌜ ((P : Book) (f : Expr) (g a : Goal) → BookOn (now (book .entry)) (now (shelf .entry)) P → Holds (now (words .entry)) (now (cells .entry)) (now (levels .entry)) s (f ∷ g) a → Treads P f g a (now (words .exit)) (now (cells .exit)) (now (levels .exit)) s r) ⌝ }
 {
     if !has_room(s, words.len()) {
         return Tread::Stays;
     }
-    match first_fit(book, shelf, words, cells, rows, levels, stack, s) {
+    match first_fit(
+        book,
+        shelf,
+        words,
+        cells,
+        rows,
+        levels,
+        &mut stack[0..387],
+        s,
+    ) {
         Found::Unsure => Tread::Stays,
         Found::Clause(i, count) => {
-            let c = clause_at(shelf, i);
+            let c = clause_at(book, shelf, &mut stack[387..1411], i);
             let end = s.top + (c.end - c.start);
-            match go(book, &words[0..end], cells, rows, levels, s, c, count) {
+            match go(&words[0..end], cells, rows, levels, s, c, count) {
                 Tread::Goes(next) => Tread::Goes(next),
                 Tread::Stays => {
                     release(cells, rows, s.base, count);

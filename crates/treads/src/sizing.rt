@@ -1,10 +1,9 @@
 // How large the next goal and answer are at most, by what the trial has bound and what the clause's body adds.
 use bounds::OVER;
 use bounds::Size;
-use bounds::clauses::thrift_of;
 use bounds::growth;
 use bounds::size_of;
-use heap::past;
+use figures::Figure;
 use heapgoals::Standing;
 ghost use mathlib.Core.Path.{_≡_};
 ghost use mathlib.Core.Logic.{_⊎_};
@@ -13,20 +12,19 @@ ghost use Prim.Native.Nat.{ℕ, _≤_, _<_};
 ghost use lib.ListN.{length};
 ghost use Rattle.terms.specs.Node.{Expr};
 ghost use Rattle.search.specs.Next.{Clause, Goal};
-ghost use Rattle.words.specs.Word.{Valids};
 ghost use Rattle.words.specs.Columns.{CELLS};
-ghost use Rattle.heap.specs.Heap.{Whole};
-ghost use Rattle.heapgoals.specs.Holding.{listed};
+ghost use Rattle.figures.specs.Figures.{first-of};
 ghost use Rattle.heapgoals.specs.HoldLaws.{Fore};
-ghost use Rattle.treads.specs.Stepping.{Under-way, body-rows, first-of, Bounded};
+ghost use Rattle.treads.specs.Stepping.{Under-way, body-rows, Bounded};
 ghost use Rattle.treads.specs.Adding.{span-words, Led, Adds, Summed};
 
-// Where a clause stands in the book, where its head ends, and how many formulas its body has.
+// Where a clause stands in the book, where its head ends, how many formulas its body has, and its figure.
 pub struct Span {
     pub start: usize,
     pub head: usize,
     pub end: usize,
     pub bodies: usize,
+    pub figure: Figure,
 }
 
 // What the body comes with: the next goal has so many nodes more, and so many less, and so many places of variables more; its first formula has so many nodes at least; and
@@ -37,17 +35,6 @@ pub struct Added {
     pub variables: usize,
     pub least: usize,
     pub names: usize,
-}
-
-// The first formula of the body has so many words.
-fn first_of(heap: &[u32], body: usize, k: usize) -> usize
-    requires { ⌜ Valids (now heap) × (length (now heap) < 65536) × Whole (now heap) k body ⌝ }
-    ensures { λ r. ⌜ (r ≡ length (first-of (listed (now (heap .entry)) k body))) × (r < 65536) ⌝ }
-{
-    if k == 0 {
-        return 0;
-    }
-    past(heap, body) - body
 }
 
 // The first formula of the next goal grows as the one before did, where each variable of the head is as often in it.
@@ -63,38 +50,27 @@ fn led(least: usize, whole: bool, head: usize, first: usize) -> usize
     first
 }
 
-fn body_adds(
-    book: &[u32],
-    heap: &[u32],
-    cells: &[u16],
-    levels: &mut [u16],
-    s: Standing,
-    c: Span,
-) -> Added
-    requires { ⌜ ((words : List ℕ) × (before : List ℕ) × (rests : List ℕ) × (tables : List ℕ) × (count : ℕ) × (f : Expr) × (g : Goal) × (a : Goal) × (d : Clause) × Under-way (now book) words before rests s c (now heap) (now cells) tables count f g a d) × (514 ≤ length (now levels)) ⌝ }
-    ensures { λ r. ⌜ Adds (span-words (now (book .entry)) c) (now (heap .entry)) (now (cells .entry)) s c (length (first-of (body-rows (now (heap .entry)) s c))) r ⌝ }
+fn body_adds(heap: &[u32], cells: &[u16], levels: &mut [u16], s: Standing, c: Span) -> Added
+    requires { ⌜ ((book : List ℕ) × (words : List ℕ) × (before : List ℕ) × (rests : List ℕ) × (tables : List ℕ) × (count : ℕ) × (f : Expr) × (g : Goal) × (a : Goal) × (d : Clause) × Under-way book words before rests s c (now heap) (now cells) tables count f g a d) × (514 ≤ length (now levels)) ⌝ }
+    ensures { λ r. ⌜ ((book words before rests tables : List ℕ) (count : ℕ) (f : Expr) (g a : Goal) (d : Clause) → Under-way book words before rests s c (now (heap .entry)) (now (cells .entry)) tables count f g a d → Adds (span-words book c) (now (heap .entry)) (now (cells .entry)) s c (length (first-of (body-rows (now (heap .entry)) s c))) r) ⌝ }
 {
-    let b = c.start;
-    let t = c.end;
-    let head = c.head - b;
-    let body = s.top + head;
-    let first = first_of(heap, body, c.bodies);
-    let x = thrift_of(&book[b..t], head, head + first);
+    let x = c.figure;
+    let head = c.head - c.start;
     if x.fresh < OVER {
         return Added {
-            nodes: t - c.head,
+            nodes: c.end - c.head,
             less: head,
             variables: x.fresh,
-            least: led(s.least, x.whole, head, first),
+            least: led(s.least, x.whole, head, x.first),
             names: x.names,
         };
     }
-    let y = size_of(heap, cells, levels, body, c.bodies, 256);
+    let y = size_of(heap, cells, levels, s.top + head, c.bodies, 256);
     Added {
         nodes: y.nodes,
         less: 0,
         variables: y.variables,
-        least: first,
+        least: x.first,
         names: 64,
     }
 }
@@ -165,7 +141,6 @@ fn bounded(s: Standing, more: Added, grown: Size) -> Bounds
 }
 
 pub fn sized(
-    book: &[u32],
     heap: &[u32],
     cells: &[u16],
     rows: &[u16],
@@ -174,9 +149,9 @@ pub fn sized(
     c: Span,
     count: usize,
 ) -> Bounds
-    requires { ⌜ ((words : List ℕ) × (before : List ℕ) × (f : Expr) × (g : Goal) × (a : Goal) × (d : Clause) × Under-way (now book) words before (now levels) s c (now heap) (now cells) (now rows) count f g a d) × (length (now rows) ≡ CELLS) ⌝ }
+    requires { ⌜ ((book : List ℕ) × (words : List ℕ) × (before : List ℕ) × (f : Expr) × (g : Goal) × (a : Goal) × (d : Clause) × Under-way book words before (now levels) s c (now heap) (now cells) (now rows) count f g a d) × (length (now rows) ≡ CELLS) ⌝ }
     ensures levels { λ _. ⌜ Fore (now (levels .entry)) (now (levels .exit)) ⌝ }
-    ensures bounds { λ r. ⌜ ((r .nodes ≡ 65535 → ⊥) → (words before : List ℕ) (f : Expr) (g a : Goal) (d : Clause) → Under-way (now (book .entry)) words before (now (levels .exit)) s c (now (heap .entry)) (now (cells .entry)) (now (rows .entry)) count f g a d → Bounded (now (heap .entry)) (now (cells .entry)) (now (levels .exit)) s c r) ⌝ }
+    ensures bounds { λ r. ⌜ ((r .nodes ≡ 65535 → ⊥) → (book words before : List ℕ) (f : Expr) (g a : Goal) (d : Clause) → Under-way book words before (now (levels .exit)) s c (now (heap .entry)) (now (cells .entry)) (now (rows .entry)) count f g a d → Bounded (now (heap .entry)) (now (cells .entry)) (now (levels .exit)) s c r) ⌝ }
 {
     let grown = growth(
         heap,
@@ -186,6 +161,6 @@ pub fn sized(
         count,
         4096,
     );
-    let more = body_adds(book, heap, cells, &mut levels[514..1028], s, c);
+    let more = body_adds(heap, cells, &mut levels[514..1028], s, c);
     bounded(s, more, grown)
 }

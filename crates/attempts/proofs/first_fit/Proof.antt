@@ -1,6 +1,6 @@
-use Prim.Native.Nat.{ℕ, _-_}
+use Prim.Native.Nat.{_-_}
 use native.Mathlib.Omega.{arith}
-use mathlib.Core.Path.{_≡_, sym as inv, ap, _∙_}
+use mathlib.Core.Path.{sym as inv, ap, _∙_}
 use lib.ListN.{length, take, drop}
 use Rattle.heapgoals.specs.HoldLaws.{fore-after}
 use Rattle.attempts.proofs.Seeking.{Seeking, at-below, placed, clause-is, first-word, seek-start, held-now, same-word, found-here, none-here, kept-clash, kept-tired, seek-again}

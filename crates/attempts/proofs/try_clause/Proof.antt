@@ -1,5 +1,5 @@
 use native.Mathlib.Omega.{arith}
-use mathlib.Core.Path.{_≡_, refl}
+use mathlib.Core.Path.{refl}
 use Rattle.heapgoals.specs.HoldLaws.{fore-same}
 use Rattle.attempts.proofs.Laying.{head-within, told-there, told-made, told-head, row-kept, lent-set-up, lent-tested}
 use borrow.Author.Needs.{needs}

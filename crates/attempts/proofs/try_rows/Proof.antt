@@ -1,6 +1,6 @@
 use native.Mathlib.Omega.{arith}
-use mathlib.Core.Path.{_≡_, sym as inv, subst, _∙_}
-use lib.ListN.{length, drop, length-drop}
+use mathlib.Core.Path.{subst, _∙_}
+use lib.ListN.{drop, length-drop}
 use lib.Seq.{length-take-le}
 use Rattle.matching.specs.Unifying.{Unified}
 use Rattle.attempts.proofs.Undoing.{start-few, begins, trail-long, trail-back, undoable, fore-part}

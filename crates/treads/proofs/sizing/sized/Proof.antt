@@ -4,7 +4,7 @@ use lib.ListN.{drop, length-drop}
 use lib.Seq.{length-take-le}
 use borrow.Rule.Slice.PartMut.{putMid, same-len-mid}
 use Rattle.heapgoals.specs.HoldLaws.{fore-after}
-use Rattle.treads.proofs.Summing.{known-most}
+use Rattle.figures.specs.FigureLaws.{known-most}
 use Rattle.attempts.proofs.Undoing.{trail-long, fore-part}
 use Rattle.treads.proofs.Bounding.{bounds-hold}
 use borrow.Author.Needs.{needs}
@@ -17,15 +17,15 @@ sized-spec =
     (tie.spec
     (λ c. omega arith)
     (λ c. search needs)
-    (λ c. let u = c .before .before .before .before .before .pre .0 .6 in omega (arith, u .held .levels-long))
+    (λ c. let u = c .before .before .before .before .pre .0 .7 in omega (arith, u .held .levels-long))
     (λ c. omega arith)
     (λ c. search needs)
-    (λ c. omega (arith, c .before .before .before .before .before .before .pre .1))
-    (λ c κs. let k = c .before .before .before .before .before .before .before .pre in let u = k .0 .6 in ((u .fitted .more .made, record { each = u .fitted .undoable .trailed .held }), (omega arith, omega arith, omega (arith, length-take-le 514 (drop 514 (c .before .before .before .before .before .before .before .args .levels .now)) (omega (arith, length-drop 514 (c .before .before .before .before .before .before .before .args .levels .now), u .held .levels-long))), omega (arith, trail-long (c .before .before .before .before .before .before .before .args .rows .now) (k .1), u .fitted .undoable .few))))
+    (λ c. omega (arith, c .before .before .before .before .before .pre .1))
+    (λ c κs. let k = c .before .before .before .before .before .before .pre in let u = k .0 .7 in ((u .fitted .more .made, record { each = u .fitted .undoable .trailed .held }), (omega arith, omega arith, omega (arith, length-take-le 514 (drop 514 (c .before .before .before .before .before .before .args .levels .now)) (omega (arith, length-drop 514 (c .before .before .before .before .before .before .args .levels .now), u .held .levels-long))), omega (arith, trail-long (c .before .before .before .before .before .before .args .rows .now) (k .1), u .fitted .undoable .few))))
     (λ c. omega arith)
     (λ c. search needs)
-    (λ c. let u = c .before .before .before .before .before .before .before .before .before .before .pre .0 .6 in omega (arith, same-len-mid 514 514 (c .before .before .before .before .before .before .before .before .before .before .args .levels .now) (c .before .before .growth .last .1 .1 .0) (c .before .before .growth .kept .1 .1 .0), u .held .levels-long))
-    (λ c κs. let k = c .before .before .before .before .before .before .before .before .before .before .before .pre in let u = k .0 .6 in let l = putMid 514 514 (c .before .before .before .before .before .before .before .before .before .before .before .args .levels .now) (c .before .before .before .growth .last .1 .1 .0) in ((_, _, _, _, _, _, _, _, _, u), omega (arith, length-take-le 514 (drop 514 l) (omega (arith, length-drop 514 l, same-len-mid 514 514 (c .before .before .before .before .before .before .before .before .before .before .before .args .levels .now) (c .before .before .before .growth .last .1 .1 .0) (c .before .before .before .growth .kept .1 .1 .0), u .held .levels-long)))))
-    (λ c κs. let u = c .before .before .before .before .before .before .before .before .before .before .before .before .before .before .pre .0 .6 in let x = c .before .before .body-adds .ensures in let y = c .before .before .before .before .before .before .growth .ensures in (u .held .variables-room, u .held .goal-room, u .held .answer-room, known-most (c .before .before .body-adds .result .nodes) 256 (omega arith) (x .small), x .spread, y .some, known-most (c .before .before .before .before .before .before .growth .result .nodes) 4096 (omega arith) (y .low), y .few))
+    (λ c. let u = c .before .before .before .before .before .before .before .before .before .pre .0 .7 in omega (arith, same-len-mid 514 514 (c .before .before .before .before .before .before .before .before .before .args .levels .now) (c .before .before .growth .last .1 .1 .0) (c .before .before .growth .kept .1 .1 .0), u .held .levels-long))
+    (λ c κs. let k = c .before .before .before .before .before .before .before .before .before .before .pre in let u = k .0 .7 in let l = putMid 514 514 (c .before .before .before .before .before .before .before .before .before .before .args .levels .now) (c .before .before .before .growth .last .1 .1 .0) in ((_, _, _, _, _, _, _, _, _, _, u), omega (arith, length-take-le 514 (drop 514 l) (omega (arith, length-drop 514 l, same-len-mid 514 514 (c .before .before .before .before .before .before .before .before .before .before .args .levels .now) (c .before .before .before .growth .last .1 .1 .0) (c .before .before .before .growth .kept .1 .1 .0), u .held .levels-long)))))
+    (λ c κs. let u = c .before .before .before .before .before .before .before .before .before .before .before .before .before .pre .0 .7 in let x = c .before .before .body-adds .ensures _ _ _ _ _ _ _ _ _ _ u in let y = c .before .before .before .before .before .before .growth .ensures in (u .held .variables-room, u .held .goal-room, u .held .answer-room, known-most (c .before .before .body-adds .result .nodes) 256 (omega arith) (x .small), x .spread, y .some, known-most (c .before .before .before .before .before .before .growth .result .nodes) 4096 (omega arith) (y .low), y .few))
     (λ c. search needs)
-    (λ c. let u = c .before .before .before .before .before .before .before .before .before .before .before .before .before .before .before .pre .0 .6 in let l = putMid 514 514 (c .before .before .before .before .before .before .before .before .before .before .before .before .before .before .before .args .levels .now) (c .before .before .before .before .before .before .before .growth .last .1 .1 .0) in (fore-after (fore-part (c .before .before .before .before .before .before .before .before .before .before .before .before .before .before .before .args .levels .now) (c .before .before .before .before .before .before .before .growth .last .1 .1 .0) (u .held .levels-long) (c .before .before .before .before .before .before .before .growth .kept .1 .1 .0)) (fore-part l (c .before .before .before .body-adds .last .1 .1 .1 .0) (same-len-mid 514 514 (c .before .before .before .before .before .before .before .before .before .before .before .before .before .before .before .args .levels .now) (c .before .before .before .before .before .before .before .growth .last .1 .1 .0) (c .before .before .before .before .before .before .before .growth .kept .1 .1 .0) ∙ u .held .levels-long) (c .before .before .before .body-adds .kept .1 .1 .1 .0)), λ n words before f g a d v. bounds-hold v (c .before .before .before .before .before .before .before .growth .result) (c .before .before .before .before .before .before .before .growth .ensures) (c .before .before .before .body-adds .result) (c .before .before .before .body-adds .ensures) (c .bounded .result) (c .bounded .ensures n))))
+    (λ c. let u = c .before .before .before .before .before .before .before .before .before .before .before .before .before .before .pre .0 .7 in let l = putMid 514 514 (c .before .before .before .before .before .before .before .before .before .before .before .before .before .before .args .levels .now) (c .before .before .before .before .before .before .before .growth .last .1 .1 .0) in (fore-after (fore-part (c .before .before .before .before .before .before .before .before .before .before .before .before .before .before .args .levels .now) (c .before .before .before .before .before .before .before .growth .last .1 .1 .0) (u .held .levels-long) (c .before .before .before .before .before .before .before .growth .kept .1 .1 .0)) (fore-part l (c .before .before .before .body-adds .last .1 .1 .0) (same-len-mid 514 514 (c .before .before .before .before .before .before .before .before .before .before .before .before .before .before .args .levels .now) (c .before .before .before .before .before .before .before .growth .last .1 .1 .0) (c .before .before .before .before .before .before .before .growth .kept .1 .1 .0) ∙ u .held .levels-long) (c .before .before .before .body-adds .kept .1 .1 .0)), λ n book words before f g a d v. bounds-hold v (c .before .before .before .before .before .before .before .growth .result) (c .before .before .before .before .before .before .before .growth .ensures) (c .before .before .before .body-adds .result) (c .before .before .before .body-adds .ensures _ _ _ _ _ _ _ _ _ _ v) (c .bounded .result) (c .bounded .ensures n))))
