@@ -57,7 +57,7 @@ fn from_bytes(
     goal: &mut [u32],
 ) -> Answer
     requires { ⌜ Good (now book) (now query) (min (length (now area)) (length (now answer))) ⌝ }
-    requires { ⌜ Rooms (now words) (now shelf) × (8192 ≤ length (now goal)) ⌝ }
+    requires { ⌜ Rooms (now book) (now words) (now shelf) × (8192 ≤ length (now goal)) ⌝ }
     ensures { λ r. ⌜ Leaves (bookOf (now (book .entry))) (closing (now (book .entry)) (now (query .entry)) budget) (now (area .entry)) (now (answer .entry)) r (now (area .exit)) (now (answer .exit)) ⌝ }
 {
     let clauses = open_book(book, words, shelf);
@@ -81,24 +81,53 @@ fn from_bytes(
     answered(e, bytes, said)
 }
 
+// The same with words for a book of up to 9,216 bytes, a quarter of those for any: clearing them takes time.
+fn from_short(
+    book: &[u8],
+    query: &[u8],
+    budget: u32,
+    area: &mut [u8],
+    answer: &mut [u8],
+    shelf: &mut [u16],
+    goal: &mut [u32],
+) -> Answer
+    requires { ⌜ Good (now book) (now query) (min (length (now area)) (length (now answer))) ⌝ }
+    requires { ⌜ (length (now book) ≤ 9216) × (2308 ≤ length (now shelf)) × (8192 ≤ length (now goal)) ⌝ }
+    ensures { λ r. ⌜ Leaves (bookOf (now (book .entry))) (closing (now (book .entry)) (now (query .entry)) budget) (now (area .entry)) (now (answer .entry)) r (now (area .exit)) (now (answer .exit)) ⌝ }
+{
+    let mut words = [0u32; 3072];
+    from_bytes(book, query, budget, area, answer, &mut words, shelf, goal)
+}
+
+// The same with words for any good book.
+fn from_long(
+    book: &[u8],
+    query: &[u8],
+    budget: u32,
+    area: &mut [u8],
+    answer: &mut [u8],
+    shelf: &mut [u16],
+    goal: &mut [u32],
+) -> Answer
+    requires { ⌜ Good (now book) (now query) (min (length (now area)) (length (now answer))) ⌝ }
+    requires { ⌜ (2308 ≤ length (now shelf)) × (8192 ≤ length (now goal)) ⌝ }
+    ensures { λ r. ⌜ Leaves (bookOf (now (book .entry))) (closing (now (book .entry)) (now (query .entry)) budget) (now (area .entry)) (now (answer .entry)) r (now (area .exit)) (now (answer .exit)) ⌝ }
+{
+    let mut words = [0u32; 10922];
+    from_bytes(book, query, budget, area, answer, &mut words, shelf, goal)
+}
+
 // The same with storage of its own.
 fn from_good(book: &[u8], query: &[u8], budget: u32, area: &mut [u8], answer: &mut [u8]) -> Answer
     requires { ⌜ Good (now book) (now query) (min (length (now area)) (length (now answer))) ⌝ }
     ensures { λ r. ⌜ Leaves (bookOf (now (book .entry))) (closing (now (book .entry)) (now (query .entry)) budget) (now (area .entry)) (now (answer .entry)) r (now (area .exit)) (now (answer .exit)) ⌝ }
 {
-    let mut words = [0u32; 10922];
     let mut shelf = [0u16; 2308];
     let mut goal = [0u32; 8192];
-    from_bytes(
-        book,
-        query,
-        budget,
-        area,
-        answer,
-        &mut words,
-        &mut shelf,
-        &mut goal,
-    )
+    if book.len() <= 9216 {
+        return from_short(book, query, budget, area, answer, &mut shelf, &mut goal);
+    }
+    from_long(book, query, budget, area, answer, &mut shelf, &mut goal)
 }
 
 // "Run a query by a book, with a budget and a goal area", and with an answer area.

@@ -1,8 +1,8 @@
 -- Where the loading of a book stands between two records.
-use Prim.Native.Nat.{ℕ, _+_, _≤_, _<_}
+use Prim.Native.Nat.{ℕ, _+_, _*_, _≤_, _<_}
 use native.Mathlib.Omega.{arith}
 use native.Mathlib.Nat.{add-zero}
-use mathlib.Core.Path.{_≡_, sym as inv, _∙_}
+use mathlib.Core.Path.{_≡_, sym as inv, ap, _∙_}
 use mathlib.Core.List.{List, [], _∷_, _++_}
 use lib.ListN.{length, getD, drop, set}
 use lib.Dec.{lit≤}
@@ -71,12 +71,14 @@ ahead-loading {e = e} {b = b} a = record {
   kept″ = filling-length (a .formulas);
 }
 
-pub book-start : (book before before′ before″ : List ℕ) → Bytes book → bookVerdict book .code ≡ 0 → 10922 ≤ length before → 513 ≤ length before′ → 512 ≤ length before″ →
+pub book-start : (book before before′ before″ : List ℕ) → Bytes book → bookVerdict book .code ≡ 0 → length book ≤ 3 * length before + 2 → 513 ≤ length before′ → 512 ≤ length before″ →
     BookLoading book before before before′ before′ before″ before″ 0 0 0
 book-start book before before′ before″ bytes z h h′ h″ =
     let q = bookOf-good book bytes z in
     let b = bookOf book in
-    let few : length (bookWords b) ≤ 10922 = omega (arith, words-few b, q .0 .short) in
+    let few = words-few b in
+    let short = q .0 .short in
+    let long = ap length (q .1) in
     let some = q .0 .few in
     ahead-loading {e = []} {b = b} record {
       image = inv (q .1);

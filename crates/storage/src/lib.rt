@@ -78,10 +78,10 @@ fn body_count(book: &[u8], at: usize) -> u16
 }
 
 // Writes the words of a good book, clause by clause; where each clause's words start, with the end of the last at the
-// end; and how many formulas each body has. Answers how many clauses they are.
+// end; and how many formulas each body has. Answers how many clauses they are. A node has three bytes at least.
 pub fn load_book(book: &[u8], words: &mut [u32], starts: &mut [u16], bodies: &mut [u16]) -> usize
     requires { ⌜ bookVerdict (now book) .code ≡ 0 ⌝ }
-    requires { ⌜ (10922 ≤ length (now words)) × (513 ≤ length (now starts)) × (512 ≤ length (now bodies)) ⌝ }
+    requires { ⌜ (length (now book) ≤ 3 * length (now words) + 2) × (513 ≤ length (now starts)) × (512 ≤ length (now bodies)) ⌝ }
     ensures { λ r. ⌜ Loaded (bookOf (now (book .entry))) (now (words .entry)) (now (words .exit)) (now (starts .entry)) (now (starts .exit)) (now (bodies .entry)) (now (bodies .exit)) r ⌝ }
 {
     let mut n = 0;
