@@ -64,6 +64,9 @@ zeros-at (suc k) (suc p) = zeros-at k p
 pub zeros-met : (k : ℕ) → recalled (replicate {A = ℕ} k 0) ≡ nothing-met
 zeros-met k = λ i p. zeros-at k p i
 
+pub zeros-verdict : (book : List ℕ) (k : ℕ) → verdict Book (recalled (replicate {A = ℕ} k 0)) book ≡ bookVerdict book
+zeros-verdict book k = ap (λ (m : Memory). verdict Book m book) (zeros-met k)
+
 -- The query's check: with such a table, the book's and then the query's.
 module _ (book s : List ℕ) (m : Memory) (none : m ≡ nothing-met) (r : Check) (is : r ≡ verdict Book m book) where
   same-book : r ≡ bookVerdict book
