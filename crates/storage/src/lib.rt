@@ -56,8 +56,9 @@ pub fn load_goal(query: &[u8], words: &mut [u32]) -> usize
     let mut n = 0;
     let mut at = 3;
     while at < query.len() {
+        let past = next_at(query, at); // in front of the write, so that the record is read once
         words[n] = word_at(query, at);
-        at = next_at(query, at);
+        at = past;
         n += 1;
     }
     n
@@ -88,6 +89,7 @@ pub fn load_book(book: &[u8], words: &mut [u32], starts: &mut [u16], bodies: &mu
     let mut k = 0;
     let mut at = 0;
     while book[at] < 7 {
+        let past = next_at(book, at);
         if book[at] <= 4 {
             words[n] = word_at(book, at);
             n += 1;
@@ -96,7 +98,7 @@ pub fn load_book(book: &[u8], words: &mut [u32], starts: &mut [u16], bodies: &mu
             bodies[k] = body_count(book, at);
             k += 1;
         }
-        at = next_at(book, at);
+        at = past;
     }
     starts[k] = n as u16;
     k

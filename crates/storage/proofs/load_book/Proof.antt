@@ -2,7 +2,6 @@
 use borrow.Author.Needs.{needs}
 use Prim.Native.Nat.{_-_}
 use native.Mathlib.Omega.{arith}
-use mathlib.Core.Logic.{⊎-elim}
 use lib.ListN.{length}
 use Rattle.storage.proofs.BookLoading.{BookLoading, book-start, book-loading}
 use Rattle.storage.proofs.load_book.Statement.{statement}
@@ -22,6 +21,7 @@ load-book-spec =
     μ-loop
     (λ c. book-start _ _ _ _ (λ i. omega (arith, c .before .before .before .shared-slice-known .given i)) (c .before .before .before .before .pre .0) (c .before .before .before .before .pre .1 .0) (c .before .before .before .before .pre .1 .1) (c .before .before .before .before .pre .1 .2))
     (λ c. search needs)
+    (λ c κs. search book-loading)
     (λ c. search needs)
     (λ c κs. search book-loading)
     (λ c. search needs)
@@ -34,9 +34,10 @@ load-book-spec =
     (λ c. search needs)
     (λ c. search book-loading)
     (λ c. search needs)
-    (λ c κs. search book-loading)
     (λ c. search needs)
-    (λ c. ⊎-elim (λ w. search book-loading) (λ w. search book-loading) (c .before .if2 .came))
+    (λ c. search book-loading)
+    (λ c. search needs)
+    (λ c. search book-loading)
     (λ c. search needs)
     (λ c. search needs)
     (λ c. search book-loading)

@@ -21,9 +21,9 @@ load-goal-spec =
     μ-loop
     (λ c. goal-start _ _ (λ i. omega (arith, c .before .shared-slice-known .given i)) (c .before .before .pre .0) (c .before .before .pre .1))
     (λ c κs. search goal-loading)
+    (λ c κs. search goal-loading)
     (λ c. search needs)
     (λ c. search goal-loading)
-    (λ c κs. search goal-loading)
     (λ c. search needs)
     (λ c. search needs)
     (λ c. search goal-loading)
