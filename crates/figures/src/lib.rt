@@ -42,7 +42,7 @@ fn figure_of(clause: &[u32], head: usize, bodies: usize) -> Figure
     }
 }
 
-// All but `fresh` in one word. It is 0 for no clause: a fact has variables, or none that its body leaves out.
+// All but `fresh` in one word, which is 0 for no clause: a body has a first formula, and a fact with no variables is whole.
 fn packed(x: Figure) -> usize
     requires { ⌜ (x .first ≤ 255) × (x .names ≤ 64) ⌝ }
     ensures { λ r. ⌜ (r < 65536) × (figure-in (x .fresh) r ≡ x) ⌝ }
