@@ -58,7 +58,8 @@ pub struct Sides {
 // A row that is written, at the front of the heap. It is numbered by first appearance, so that it has fewer variables than words.
 pub fn stand(row: &[u32], x: Sides) -> Standing
     requires { ⌜ ((f : Expr) × (g : Goal) × (a : Goal) × Sided (now row) x f g a) ⌝ }
-    ensures { λ r. ⌜ ((f : Expr) (g a : Goal) → Sided (now (row .entry)) x f g a → (words cells levels : List ℕ) → Clean (now (row .entry)) words cells levels → Holds words cells levels r (f ∷ g) a) ⌝ }
+    ensures held { λ r. ⌜ ((f : Expr) (g a : Goal) → Sided (now (row .entry)) x f g a → (words cells levels : List ℕ) → Clean (now (row .entry)) words cells levels → Holds words cells levels r (f ∷ g) a) ⌝ }
+    ensures top { λ r. ⌜ r .top ≡ length (now (row .entry)) ⌝ }
 {
     Standing {
         at: 0,

@@ -46,13 +46,14 @@ module _ (words saved : List ℕ) (kept : ℕ) (room : kept ≤ length words) (f
       pub front-long : length (take j words′) ≡ j
       front-long = length-take-le j words′ (omega (arith, is, aside-long, within))
 
+      front-same : (n : ℕ) → n ≤ limit → take n words ≡ take n (take j words′)
+      front-same n l = inv (take-take n limit words l) ∙ ap (take n) (inv (take-put limit (end - limit) words part within)) ∙ ap (λ i. take n (take i words′)) (inv is)
+
       -- the row is still at the front
       pub front-starts : {P : Book} {q : Goal} (x : Start) → x .place .words + x .place .answer ≤ limit → Starts P q words saved x → Starts P q (take j words′) saved x
       front-starts {P} {q} x l y =
           let n = x .place .words + x .place .answer in
-          let same : take n words ≡ take n (take j words′) =
-          inv (take-take n limit words l) ∙ ap (take n) (inv (take-put limit (end - limit) words part within)) ∙ ap (λ i. take n (take i words′)) (inv is) in
-          record { opens = subst (λ r. Opens P q (x .budget) r saved (x .place)) same (y .opens); answers = y .answers; numbered = y .numbered }
+          record { opens = subst (λ r. Opens P q (x .budget) r saved (x .place)) (front-same n l) (y .opens); answers = y .answers; numbered = y .numbered }
 
       -- and the formula at the end, whatever the ride has made of the front
       module _ (front : List ℕ) (long : length front ≡ length (take j words′)) where
@@ -69,6 +70,10 @@ module _ (words saved : List ℕ) (kept : ℕ) (room : kept ≤ length words) (f
 
         pub back-room : kept ≤ length (take (end - limit) (drop limit words″))
         back-room = omega (arith, ap length there, part-long, mid-long)
+
+        -- the row too, where the ride has left it there
+        pub row-stays : (n : ℕ) → n ≤ limit → take n front ≡ take n (take j words′) → take n words″ ≡ take n words
+        row-stays n l e = inv (take-take n limit words″ l) ∙ ap (take n) (take-at front (postOf 0 j words′) limit (omega (arith, long, front-long, is))) ∙ e ∙ inv (front-same n l)
 
         pub all-long : length words″ ≡ length words
         all-long = same-len-mid 0 j words′ front long ∙ aside-long

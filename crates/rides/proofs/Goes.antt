@@ -5,6 +5,7 @@ use mathlib.Core.Path.{_≡_, sym as inv, ap, _∙_, subst}
 use mathlib.Core.Bool.{Bool, true, false}
 use mathlib.Core.List.{List, _∷_}
 use lib.ListN.{length, take}
+use lib.Seq.{take-take}
 use Rattle.terms.specs.Node.{Expr}
 use Rattle.search.specs.Next.{Book, Goal}
 use Rattle.search.specs.Answer.{next-answer}
@@ -53,6 +54,10 @@ comes-first book shelf words cells levels saved start s h free cl ll P q b y = r
   visits = visited (y .opens .here) (y .opens .formula ∷ y .opens .rest) (y .opens .is);
   holds = h P q saved y cells levels free cl ll;
 }
+
+-- fewer words of the front
+pub front-less : {n m : ℕ} (a b : List ℕ) → n ≤ m → take m a ≡ take m b → take n a ≡ take n b
+front-less {n} {m} a b l e = inv (take-take n m a l) ∙ ap (take n) e ∙ take-take n m b l
 
 -- the formula is saved
 pub saves : (f : Expr) (out saved saved′ : List ℕ) (n k r : ℕ) (b : Bool) → n ≤ length out → n ≤ length saved → Keeps out n saved k b saved′ r → Drawn f out n b → Saves f saved k b saved′ r
@@ -138,7 +143,7 @@ module _ (book shelf words₀ saved₀ : List ℕ) (start : Start) (words cells 
               let a = c .answer in
               let v : Visits P q (x .budget) saved (x .detector) (x .kept) (f ∷ r) a = subst (λ g. Visits P q (x .budget) saved (x .detector) (x .kept) g a) e (c .visits) in
               let many : s .formulas ≡ length (f ∷ r) = c .holds .many ∙ ap length e in
-              let (h, to, fit, little, held′) = subst (Treads P f r a words′ cells′ levels″ s) went (trod P f r a b (subst (λ g. Holds words cells levels′ s g a) e (held (c .goal) a (c .holds)))) in
+              let (h, to, fit, little, held′, higher) = subst (Treads P f r a words′ cells′ levels″ s) went (trod P f r a b (subst (λ g. Holds words cells levels′ s g a) e (held (c .goal) a (c .holds)))) in
               record {
                 goal = h;
                 answer = next-answer P (f ∷ r) a;
@@ -151,6 +156,11 @@ module _ (book shelf words₀ saved₀ : List ℕ) (start : Start) (words cells 
 
           pub goes-on : From book shelf words₀ saved₀ start (λ P q. Comes P q words′ cells′ levels″ saved′ next x′)
           goes-on P q b y = subst (λ (i : Along). Comes P q words′ cells′ levels″ saved′ next i) (inv is) (goes P q b y)
+
+          pub goes-top : s .top ≤ next .top
+          goes-top =
+              let (f, r, e, h) = first (here .goal) (here .answer) (here .holds) in
+              subst (Treads (there .0) f r (here .answer) words′ cells′ levels″ s) went (trod (there .0) f r (here .answer) (there .2) h) .5
 
           pub goes-step : x′ .detector .step ≡ x .detector .step + 1
           goes-step = ap (λ (i : Along). i .detector .step) is ∙ moved-step (ahead .due) (x .detector) (s .formulas)

@@ -40,6 +40,9 @@ module _ {P : Book} {q : Goal} {words saved : List ℕ} {x : Start} (y : Starts 
     part-is : part ≡ row
     part-is = is ∙ ap (λ i. take i words) e
 
+    pub part-long : length part ≡ n + w
+    part-long = ap length part-is ∙ length-take-le (n + w) words start-within
+
     pub sided : Sided part (record { words = n; first = x .place .front; formulas = x .place .formulas; answers = x .answers }) (y .opens .formula) (y .opens .rest) (answer-at P q (x .place .detector .step))
     sided =
         let o = y .opens in

@@ -17,7 +17,7 @@ use treads::take_step;
 ghost use Prim.Native.Nat.{ℕ, _+_, _≤_};
 ghost use mathlib.Core.Path.{_≡_};
 ghost use mathlib.Core.List.{List};
-ghost use lib.ListN.{length};
+ghost use lib.ListN.{length, take};
 ghost use Rattle.search.specs.Next.{Book, Goal};
 ghost use Rattle.words.specs.Columns.{CELLS};
 ghost use Rattle.words.specs.Held.{BookOn};
@@ -51,7 +51,8 @@ pub enum Ridden {
 
 fn stand_at(words: &[u32], start: Start) -> Standing
     requires { ⌜ ((P : Book) × (q : Goal) × (saved : List ℕ) × Starts P q (now words) saved start) ⌝ }
-    ensures { λ r. ⌜ Standing-at (now (words .entry)) start r ⌝ }
+    ensures held { λ r. ⌜ Standing-at (now (words .entry)) start r ⌝ }
+    ensures top { λ r. ⌜ r .top ≡ start .place .words + start .place .answer ⌝ }
 {
     let place = start.place;
     let n = place.words + place.answer;
@@ -100,7 +101,7 @@ fn finish(
     })
 }
 
-// From a row at the front of `words`. Where no state is come to, the saved formula may be another one.
+// From a row at the front of `words`, which stays there. Where no state is come to, the saved formula may be another one.
 fn go_on(
     book: &[u32],
     shelf: &[u16],
@@ -115,6 +116,7 @@ fn go_on(
     requires { ⌜ ((P : Book) × (q : Goal) × BookOn (now book) (now shelf) P × Starts P q (now words) (now saved) start) ⌝ }
     ensures went { λ r. ⌜ ((P : Book) (q : Goal) → BookOn (now (book .entry)) (now (shelf .entry)) P → Starts P q (now (words .entry)) (now (saved .entry)) start → Went P q (start .budget) (start .place .detector .step) (now (saved .exit)) (now (out .exit)) r) ⌝ }
     ensures free { λ _. ⌜ Free (now (cells .exit)) ⌝ }
+    ensures row { λ _. ⌜ take (start .place .words + start .place .answer) (now (words .exit)) ≡ take (start .place .words + start .place .answer) (now (words .entry)) ⌝ }
 {
     let mut levels = [0u16; 1028];
     let mut stack = [0u16; 1411];
@@ -145,7 +147,7 @@ fn go_on(
     }
 }
 
-// The row stands at the front of `words`. Meanwhile the saved formula stands at their end too, so that it is not lost where no state is come to.
+// The row stands at the front of `words`, and the heap grows behind it. Meanwhile the saved formula stands at their end too, so that it is not lost where no state is come to.
 pub fn ride(
     book: &[u32],
     shelf: &[u16],
@@ -160,6 +162,7 @@ pub fn ride(
     requires { ⌜ ((P : Book) × (q : Goal) × BookOn (now book) (now shelf) P × Starts P q (now words) (now saved) start) ⌝ }
     ensures rode { λ r. ⌜ ((P : Book) (q : Goal) → BookOn (now (book .entry)) (now (shelf .entry)) P → Starts P q (now (words .entry)) (now (saved .entry)) start → Rode P q (now (saved .entry)) start (now (saved .exit)) (now (out .exit)) r) ⌝ }
     ensures free { λ _. ⌜ Free (now (cells .exit)) ⌝ }
+    ensures row { λ _. ⌜ take (start .place .words + start .place .answer) (now (words .exit)) ≡ take (start .place .words + start .place .answer) (now (words .entry)) ⌝ }
 {
     let place = start.place;
     let kept = place.kept;

@@ -97,6 +97,7 @@ module _ {book shelf words cells levels : List ℕ} {P : Book} {s : Standing} {f
           fit,
           ap small same ∙ little,
           subst (Holds words′ cells′ levels″ t′ n) (inv same) (holds-words (front top) (omega (arith, top, heap-long, end-inside)) held),
+          omega (arith, top, heap-long),
         )
       where
         front : t′ .top ≡ length (take (end - 0) (drop 0 words′)) → take (t′ .top) words′ ≡ take (t′ .top) (take (end - 0) (drop 0 words′))

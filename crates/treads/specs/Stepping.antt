@@ -75,8 +75,8 @@ Went levels s c heap cells tables count levels′ (Goes t) =
     (t .top ≡ length heap) × ((book words before : List ℕ) (f : Expr) (g a : Goal) (d : Clause) → Under-way book words before levels s c heap cells tables count f g a d
     → (h : Goal) × (b : Goal) × Onward f g a d h b × (fits h ≡ true) × (small b ≡ true) × Holds heap cells levels′ t h b)
 
--- what is held is held still; or the next goal and answer are held, and have room
+-- what is held is held still; or the next goal and answer are held, on no fewer words, and have room
 abbrev pub Treads : Book → Expr → Goal → Goal → List ℕ → List ℕ → List ℕ → Standing → Tread → Type 0
 Treads P f g a words cells levels s Stays = Holds words cells levels s (f ∷ g) a
 Treads P f g a words cells levels s (Goes t) =
-    (h : Goal) × (next-goal P (f ∷ g) ≡ some h) × (fits h ≡ true) × (small (next-answer P (f ∷ g) a) ≡ true) × Holds words cells levels t h (next-answer P (f ∷ g) a)
+    (h : Goal) × (next-goal P (f ∷ g) ≡ some h) × (fits h ≡ true) × (small (next-answer P (f ∷ g) a) ≡ true) × Holds words cells levels t h (next-answer P (f ∷ g) a) × (s .top ≤ t .top)

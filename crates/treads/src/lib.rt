@@ -19,7 +19,7 @@ ghost use mathlib.Core.Path.{_≡_};
 ghost use mathlib.Core.Bool.{true};
 ghost use mathlib.Core.List.{List, _∷_};
 ghost use Prim.Native.Nat.{ℕ, _+_, _<_, _≤_};
-ghost use lib.ListN.{length, drop};
+ghost use lib.ListN.{length, take, drop};
 ghost use Rattle.terms.specs.Node.{Expr};
 ghost use Rattle.search.specs.Next.{Clause, Book, Goal, clause-at};
 ghost use Rattle.words.specs.Word.{Valids};
@@ -149,7 +149,7 @@ fn has_room(s: Standing, length: usize) -> bool
     s.depth < 256
 }
 
-// The first 387 words of the stack are a trial's, and those behind them the figures of the book's clauses.
+// The words in use stay as they are. The first 387 words of the stack are a trial's, and those behind them the figures of the book's clauses.
 pub fn take_step(
     book: &[u32],
     shelf: &[u16],
@@ -162,6 +162,7 @@ pub fn take_step(
 ) -> Tread
     requires { ⌜ (length (now words) ≤ WORDS) × (length (now rows) ≡ CELLS) × (length (now stack) ≡ 1411) × Figured (now book) (now shelf) (drop 387 (now stack)) ⌝ }
     requires { ⌜ ((P : Book) × (f : Expr) × (g : Goal) × (a : Goal) × BookOn (now book) (now shelf) P × Holds (now words) (now cells) (now levels) s (f ∷ g) a) ⌝ }
+    ensures words { λ _. ⌜ take (s .top) (now (words .exit)) ≡ take (s .top) (now (words .entry)) ⌝ }
     ensures figured { λ _. ⌜ Figured (now (book .entry)) (now (shelf .entry)) (drop 387 (now (stack .exit))) ⌝ }
     ensures treads { λ r. ⌜ ((P : Book) (f : Expr) (g a : Goal) → BookOn (now (book .entry)) (now (shelf .entry)) P → Holds (now (words .entry)) (now (cells .entry)) (now (levels .entry)) s (f ∷ g) a → Treads P f g a (now (words .exit)) (now (cells .exit)) (now (levels .exit)) s r) ⌝ }
 {

@@ -1,5 +1,5 @@
 use native.Mathlib.Omega.{arith}
-use mathlib.Core.Path.{sym as inv, subst, _∙_}
+use mathlib.Core.Path.{refl, sym as inv, subst, _∙_}
 use lib.Seq.{length-take-le}
 use Rattle.figures.specs.Figures.{Figured}
 use Rattle.heapgoals.specs.HoldLaws.{fore-after}
@@ -23,7 +23,7 @@ has-room-requires c κs = search needs
 
 -- src/lib.rt:169:9
 returns : tie.Need-returns
-returns c = search needs
+returns c = (refl, (c .before .before .before .before .before .before .before .before .before .pre .0 .3, λ P f g a o h. h))
 
 -- src/lib.rt:178:9
 sub-first-fit : tie.Need-sub-first-fit
@@ -123,7 +123,7 @@ same-length-5 c = search needs
 
 -- src/lib.rt:153:1
 returns-2 : tie.Need-returns-2
-returns-2 c = (subst (Figured _ _) (inv (figures-left (c .before .before .before .before .before .before .before .before .before .before .before .before .before .before .before .before .before .before .before .before .before .before .before .before .before .before .before .args .stack .now) (c .before .before .before .before .before .before .before .before .before .before .before .before .first-fit .last .1 .1 .1 .1 .1 .1 .0) (c .before .before .before .before .before .before .before .before .before .before .before .before .before .before .before .before .before .before .before .before .before .before .before .before .before .before .before .pre .0 .2) (c .before .before .before .before .before .before .before .before .before .before .before .before .first-fit .kept .1 .1 .1 .1 .1 .1 .0))) (c .before .before .before .before .before .before .before .before .before .before .before .before .before .before .before .before .before .before .before .before .before .before .before .before .before .before .before .pre .0 .3), λ P f g a o h. held-still h (c .before .before .before .before .before .before .before .before .before .before .before .before .first-fit .ensures .0) (c .before .before .before .before .before .before .before .before .before .before .before .before .first-fit .kept .1 .1 .0) (c .before .before .before .before .before .before .before .before .before .before .before .before .first-fit .ensures .1 .0) (subst (Sought _ _ _ _ _ _ _ _ _ _) (c .enum-told .given .1) (c .before .before .before .before .before .before .before .before .before .before .before .before .first-fit .ensures .1 .1 P f g a o h)))
+returns-2 c = (c .before .before .before .before .before .before .before .before .before .before .before .before .first-fit .ensures .0, (subst (Figured _ _) (inv (figures-left (c .before .before .before .before .before .before .before .before .before .before .before .before .before .before .before .before .before .before .before .before .before .before .before .before .before .before .before .args .stack .now) (c .before .before .before .before .before .before .before .before .before .before .before .before .first-fit .last .1 .1 .1 .1 .1 .1 .0) (c .before .before .before .before .before .before .before .before .before .before .before .before .before .before .before .before .before .before .before .before .before .before .before .before .before .before .before .pre .0 .2) (c .before .before .before .before .before .before .before .before .before .before .before .before .first-fit .kept .1 .1 .1 .1 .1 .1 .0))) (c .before .before .before .before .before .before .before .before .before .before .before .before .before .before .before .before .before .before .before .before .before .before .before .before .before .before .before .pre .0 .3), λ P f g a o h. held-still h (c .before .before .before .before .before .before .before .before .before .before .before .before .first-fit .ensures .0) (c .before .before .before .before .before .before .before .before .before .before .before .before .first-fit .kept .1 .1 .0) (c .before .before .before .before .before .before .before .before .before .before .before .before .first-fit .ensures .1 .0) (subst (Sought _ _ _ _ _ _ _ _ _ _) (c .enum-told .given .1) (c .before .before .before .before .before .before .before .before .before .before .before .before .first-fit .ensures .1 .1 P f g a o h))))
 
 -- src/lib.rt:153:1
 same-length-6 : tie.Need-same-length-6
@@ -147,7 +147,7 @@ same-length-10 c = stack-long (c .before .before .before .before .before .before
 
 -- src/lib.rt:153:1
 returns-3 : tie.Need-returns-3
-returns-3 c = (subst (Figured _ _) (inv (figures-back (c .before .before .before .before .before .before .before .before .before .before .before .before .before .before .before .before .before .before .before .before .before .before .before .before .before .before .before .before .before .before .before .before .before .before .before .before .before .before .before .before .before .before .before .before .before .args .stack .now) (c .before .before .before .before .before .before .before .before .before .before .before .before .before .before .before .before .before .before .before .before .before .before .before .before .before .before .before .before .before .before .first-fit .last .1 .1 .1 .1 .1 .1 .0) (c .before .before .before .before .before .before .before .before .before .before .before .before .before .before .before .before .before .before .before .before .before .before .before .before .before .before .before .before .before .before .before .before .before .before .before .before .before .before .before .before .before .before .before .before .before .pre .0 .2) (c .before .before .before .before .before .before .before .before .before .before .before .before .before .before .before .before .before .before .before .before .before .before .before .before .before .before .before .before .before .before .first-fit .kept .1 .1 .1 .1 .1 .1 .0) (c .before .before .before .before .before .before .before .before .before .before .before .before .before .before .before .clause-at .last .1 .1 .0) (c .before .before .before .before .before .before .before .before .before .before .before .before .before .before .before .clause-at .kept .1 .1 .0))) (c .before .before .before .before .before .before .before .before .before .before .before .before .before .before .before .clause-at .ensures .1 .1), λ P f g a o h. let k = c .before .before .before .before .before .before .before .before .before .before .before .before .before .before .before .before .before .before .before .before .before .before .before .before .before .before .before .before .before .before .before .before .before .before .before .before .before .before .before .before .before .before .before .before .before .pre in let t = (subst (Sought _ _ _ _ _ _ _ _ _ _) (c .before .before .before .before .before .before .before .before .before .before .before .before .before .before .before .before .before .before .i .given .1) (c .before .before .before .before .before .before .before .before .before .before .before .before .before .before .before .before .before .before .before .before .before .before .before .before .before .before .before .before .before .before .first-fit .ensures .1 .1 P f g a o h)) in let p = (c .before .before .before .before .before .before .before .before .before .before .before .before .before .before .before .clause-at .ensures .0 _ o (t .1)) in gone o h ((c .before .before .before .before .before .before .before .before .before .before .before .before .before .before .before .before .before .before .before .before .before .before .before .before .before .before .before .before .before .before .before .before .before .before .before .before .before .has-room .ensures (was-true (c .before .before .before .before .before .before .before .before .before .before .before .before .before .before .before .before .before .before .before .before .before .before .before .before .before .before .before .before .before .before .before .before .before .before .before .before .if1 .left))) .0) ((c .before .before .before .before .before .before .before .before .before .before .before .before .before .before .before .before .before .before .before .before .before .before .before .before .before .before .before .before .before .before .before .before .before .before .before .before .before .has-room .ensures (was-true (c .before .before .before .before .before .before .before .before .before .before .before .before .before .before .before .before .before .before .before .before .before .before .before .before .before .before .before .before .before .before .before .before .before .before .before .before .if1 .left))) .1) (k .0 .0) (c .before .before .before .before .before .before .before .before .before .before .before .before .before .before .before .before .before .before .before .before .before .before .before .before .before .before .before .before .before .before .first-fit .kept .1 .1 .0) (c .before .before .before .before .before .before .before .before .before .before .before .before .before .before .before .before .before .before .before .before .before .before .before .before .before .before .before .before .before .before .first-fit .ensures .1 .0) t (c .before .before .before .before .before .before .before .before .before .before .before .before .before .before .before .clause-at .result) (p .0) (p .1) (c .before .before .before .before .before .before .before .before .before .before .before .before .before .before .before .clause-at .ensures .1 .0) (subst (Went _ _ _ _ _ _ _ _) (c .before .next .given .1) (c .before .before .before .before .before .go .ensures)))
+returns-3 c = (c .before .before .before .before .before .before .before .before .before .before .before .before .before .before .before .before .before .before .before .before .before .before .before .before .before .before .before .before .before .before .first-fit .ensures .0, (subst (Figured _ _) (inv (figures-back (c .before .before .before .before .before .before .before .before .before .before .before .before .before .before .before .before .before .before .before .before .before .before .before .before .before .before .before .before .before .before .before .before .before .before .before .before .before .before .before .before .before .before .before .before .before .args .stack .now) (c .before .before .before .before .before .before .before .before .before .before .before .before .before .before .before .before .before .before .before .before .before .before .before .before .before .before .before .before .before .before .first-fit .last .1 .1 .1 .1 .1 .1 .0) (c .before .before .before .before .before .before .before .before .before .before .before .before .before .before .before .before .before .before .before .before .before .before .before .before .before .before .before .before .before .before .before .before .before .before .before .before .before .before .before .before .before .before .before .before .before .pre .0 .2) (c .before .before .before .before .before .before .before .before .before .before .before .before .before .before .before .before .before .before .before .before .before .before .before .before .before .before .before .before .before .before .first-fit .kept .1 .1 .1 .1 .1 .1 .0) (c .before .before .before .before .before .before .before .before .before .before .before .before .before .before .before .clause-at .last .1 .1 .0) (c .before .before .before .before .before .before .before .before .before .before .before .before .before .before .before .clause-at .kept .1 .1 .0))) (c .before .before .before .before .before .before .before .before .before .before .before .before .before .before .before .clause-at .ensures .1 .1), λ P f g a o h. let k = c .before .before .before .before .before .before .before .before .before .before .before .before .before .before .before .before .before .before .before .before .before .before .before .before .before .before .before .before .before .before .before .before .before .before .before .before .before .before .before .before .before .before .before .before .before .pre in let t = (subst (Sought _ _ _ _ _ _ _ _ _ _) (c .before .before .before .before .before .before .before .before .before .before .before .before .before .before .before .before .before .before .i .given .1) (c .before .before .before .before .before .before .before .before .before .before .before .before .before .before .before .before .before .before .before .before .before .before .before .before .before .before .before .before .before .before .first-fit .ensures .1 .1 P f g a o h)) in let p = (c .before .before .before .before .before .before .before .before .before .before .before .before .before .before .before .clause-at .ensures .0 _ o (t .1)) in gone o h ((c .before .before .before .before .before .before .before .before .before .before .before .before .before .before .before .before .before .before .before .before .before .before .before .before .before .before .before .before .before .before .before .before .before .before .before .before .before .has-room .ensures (was-true (c .before .before .before .before .before .before .before .before .before .before .before .before .before .before .before .before .before .before .before .before .before .before .before .before .before .before .before .before .before .before .before .before .before .before .before .before .if1 .left))) .0) ((c .before .before .before .before .before .before .before .before .before .before .before .before .before .before .before .before .before .before .before .before .before .before .before .before .before .before .before .before .before .before .before .before .before .before .before .before .before .has-room .ensures (was-true (c .before .before .before .before .before .before .before .before .before .before .before .before .before .before .before .before .before .before .before .before .before .before .before .before .before .before .before .before .before .before .before .before .before .before .before .before .if1 .left))) .1) (k .0 .0) (c .before .before .before .before .before .before .before .before .before .before .before .before .before .before .before .before .before .before .before .before .before .before .before .before .before .before .before .before .before .before .first-fit .kept .1 .1 .0) (c .before .before .before .before .before .before .before .before .before .before .before .before .before .before .before .before .before .before .before .before .before .before .before .before .before .before .before .before .before .before .first-fit .ensures .1 .0) t (c .before .before .before .before .before .before .before .before .before .before .before .before .before .before .before .clause-at .result) (p .0) (p .1) (c .before .before .before .before .before .before .before .before .before .before .before .before .before .before .before .clause-at .ensures .1 .0) (subst (Went _ _ _ _ _ _ _ _) (c .before .next .given .1) (c .before .before .before .before .before .go .ensures))))
 
 -- src/lib.rt:153:1
 same-length-11 : tie.Need-same-length-11
@@ -171,7 +171,7 @@ same-length-15 c = stack-long (c .before .before .before .before .before .before
 
 -- src/lib.rt:153:1
 returns-4 : tie.Need-returns-4
-returns-4 c = (subst (Figured _ _) (inv (figures-back (c .before .before .before .before .before .before .before .before .before .before .before .before .before .before .before .before .before .before .before .before .before .before .before .before .before .before .before .before .before .before .before .before .before .before .before .before .before .before .before .before .before .before .before .before .before .before .before .before .before .args .stack .now) (c .before .before .before .before .before .before .before .before .before .before .before .before .before .before .before .before .before .before .before .before .before .before .before .before .before .before .before .before .before .before .before .before .before .before .first-fit .last .1 .1 .1 .1 .1 .1 .0) (c .before .before .before .before .before .before .before .before .before .before .before .before .before .before .before .before .before .before .before .before .before .before .before .before .before .before .before .before .before .before .before .before .before .before .before .before .before .before .before .before .before .before .before .before .before .before .before .before .before .pre .0 .2) (c .before .before .before .before .before .before .before .before .before .before .before .before .before .before .before .before .before .before .before .before .before .before .before .before .before .before .before .before .before .before .before .before .before .before .first-fit .kept .1 .1 .1 .1 .1 .1 .0) (c .before .before .before .before .before .before .before .before .before .before .before .before .before .before .before .before .before .before .before .clause-at .last .1 .1 .0) (c .before .before .before .before .before .before .before .before .before .before .before .before .before .before .before .before .before .before .before .clause-at .kept .1 .1 .0))) (c .before .before .before .before .before .before .before .before .before .before .before .before .before .before .before .before .before .before .before .clause-at .ensures .1 .1), λ P f g a o h. let t = (subst (Sought _ _ _ _ _ _ _ _ _ _) (c .before .before .before .before .before .before .before .before .before .before .before .before .before .before .before .before .before .before .before .before .before .before .i .given .1) (c .before .before .before .before .before .before .before .before .before .before .before .before .before .before .before .before .before .before .before .before .before .before .before .before .before .before .before .before .before .before .before .before .before .before .first-fit .ensures .1 .1 P f g a o h)) in held-still h (c .before .before .before .before .before .before .before .before .before .before .before .before .before .before .before .before .before .before .before .before .before .before .before .before .before .before .before .before .before .before .before .before .before .before .first-fit .ensures .0) (c .before .before .before .before .before .before .before .before .before .before .before .before .before .before .before .before .before .before .before .before .before .before .before .before .before .before .before .before .before .before .before .before .before .before .first-fit .kept .1 .1 .0) (fore-after (c .before .before .before .before .before .before .before .before .before .before .before .before .before .before .before .before .before .before .before .before .before .before .before .before .before .before .before .before .before .before .before .before .before .before .first-fit .ensures .1 .0) (subst (Went _ _ _ _ _ _ _ _) (c .before .before .before .before .before .enum-told2 .given .1) (c .before .before .before .before .before .before .before .before .before .go .ensures))) (c .before .before .release .ensures _ (t .2 .fitted .undoable)))
+returns-4 c = (c .before .before .before .before .before .before .before .before .before .before .before .before .before .before .before .before .before .before .before .before .before .before .before .before .before .before .before .before .before .before .before .before .before .before .first-fit .ensures .0, (subst (Figured _ _) (inv (figures-back (c .before .before .before .before .before .before .before .before .before .before .before .before .before .before .before .before .before .before .before .before .before .before .before .before .before .before .before .before .before .before .before .before .before .before .before .before .before .before .before .before .before .before .before .before .before .before .before .before .before .args .stack .now) (c .before .before .before .before .before .before .before .before .before .before .before .before .before .before .before .before .before .before .before .before .before .before .before .before .before .before .before .before .before .before .before .before .before .before .first-fit .last .1 .1 .1 .1 .1 .1 .0) (c .before .before .before .before .before .before .before .before .before .before .before .before .before .before .before .before .before .before .before .before .before .before .before .before .before .before .before .before .before .before .before .before .before .before .before .before .before .before .before .before .before .before .before .before .before .before .before .before .before .pre .0 .2) (c .before .before .before .before .before .before .before .before .before .before .before .before .before .before .before .before .before .before .before .before .before .before .before .before .before .before .before .before .before .before .before .before .before .before .first-fit .kept .1 .1 .1 .1 .1 .1 .0) (c .before .before .before .before .before .before .before .before .before .before .before .before .before .before .before .before .before .before .before .clause-at .last .1 .1 .0) (c .before .before .before .before .before .before .before .before .before .before .before .before .before .before .before .before .before .before .before .clause-at .kept .1 .1 .0))) (c .before .before .before .before .before .before .before .before .before .before .before .before .before .before .before .before .before .before .before .clause-at .ensures .1 .1), λ P f g a o h. let t = (subst (Sought _ _ _ _ _ _ _ _ _ _) (c .before .before .before .before .before .before .before .before .before .before .before .before .before .before .before .before .before .before .before .before .before .before .i .given .1) (c .before .before .before .before .before .before .before .before .before .before .before .before .before .before .before .before .before .before .before .before .before .before .before .before .before .before .before .before .before .before .before .before .before .before .first-fit .ensures .1 .1 P f g a o h)) in held-still h (c .before .before .before .before .before .before .before .before .before .before .before .before .before .before .before .before .before .before .before .before .before .before .before .before .before .before .before .before .before .before .before .before .before .before .first-fit .ensures .0) (c .before .before .before .before .before .before .before .before .before .before .before .before .before .before .before .before .before .before .before .before .before .before .before .before .before .before .before .before .before .before .before .before .before .before .first-fit .kept .1 .1 .0) (fore-after (c .before .before .before .before .before .before .before .before .before .before .before .before .before .before .before .before .before .before .before .before .before .before .before .before .before .before .before .before .before .before .before .before .before .before .first-fit .ensures .1 .0) (subst (Went _ _ _ _ _ _ _ _) (c .before .before .before .before .before .enum-told2 .given .1) (c .before .before .before .before .before .before .before .before .before .go .ensures))) (c .before .before .release .ensures _ (t .2 .fitted .undoable))))
 
 pub take-step-spec : {M : Type 1} → statement M
 take-step-spec =
