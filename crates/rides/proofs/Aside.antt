@@ -1,15 +1,15 @@
 -- The saved formula put aside at the end of the words.
 use Prim.Native.Nat.{ℕ, _+_, _-_, _≤_}
 use native.Mathlib.Omega.{arith}
-use mathlib.Core.Path.{_≡_, sym as inv, ap, _∙_, subst}
+use mathlib.Core.Path.{_≡_, refl, sym as inv, ap, _∙_, subst}
 use mathlib.Core.List.{List, _++_}
 use lib.ListN.{length, take, drop, length-drop}
 use lib.Seq.{length-take-le, take-take, take-at, drop-at}
 use borrow.Rule.Slice.PartMut.{putMid, postOf, same-len-mid, take-put}
 use Rattle.search.specs.Next.{Book, Goal}
-use Rattle.states.specs.States.{Opens}
 use Rattle.states.proofs.Copies.{copied-length, copied-front}
 use Rattle.states.proofs.Fronts.{kept-within}
+use Rattle.states.proofs.Visits.{reopened}
 use Rattle.rides.specs.Riding.{Starts, Arrived, Went}
 use Rattle.rides.specs.declared.Start.{Start}
 use Rattle.rides.specs.declared.Come.{Come}
@@ -53,7 +53,7 @@ module _ (words saved : List ℕ) (kept : ℕ) (room : kept ≤ length words) (f
       pub front-starts : {P : Book} {q : Goal} (x : Start) → x .place .words + x .place .answer ≤ limit → Starts P q words saved x → Starts P q (take j words′) saved x
       front-starts {P} {q} x l y =
           let n = x .place .words + x .place .answer in
-          record { opens = subst (λ r. Opens P q (x .budget) r saved (x .place)) (front-same n l) (y .opens); answers = y .answers; numbered = y .numbered }
+          record { opens = reopened (take j words′) saved (inv (front-same n l)) (omega (arith, front-long, is, l)) refl refl (y .opens); answers = y .answers; numbered = y .numbered }
 
       -- and the formula at the end, whatever the ride has made of the front
       module _ (front : List ℕ) (long : length front ≡ length (take j words′)) where

@@ -8,7 +8,6 @@ use mathlib.Core.Bool.{Bool, true, false, not}
 use mathlib.Core.Option.{none, some}
 use mathlib.Core.List.{List, [], _∷_}
 use lib.ListN.{length, take}
-use lib.Seq.{length-take-le, take-all}
 use Rattle.terms.specs.Node.{Expr}
 use Rattle.search.specs.Next.{Book, Goal}
 use Rattle.words.specs.Word.{Valids, nodes}
@@ -82,10 +81,7 @@ pub arrived : {P : Book} {q : Goal} {saved : List ℕ} {g a : Goal} (x : Along) 
     → Visits P q (x .budget) saved (x .detector) (x .kept) g a → RowIn (take (n + w) out) n m g a × (n + w ≤ 8192)
     → Arrived P q (x .budget) since saved out (record { detector = x .detector; words = n; answer = w; formulas = m; kept = x .kept })
 arrived {P} {q} {saved} {g} {a} x since out n m w l z long v (h, small) = record {
-  here =
-      let size : length (take (n + w) out) ≡ n + w = length-take-le (n + w) out (omega arith) in
-      written v (take (n + w) out) n m w (omega (arith, size)) (subst (λ r. RowIn r n m g a) (inv (take-all (n + w) (take (n + w) out) (omega (arith, size)))) h);
-  inside = omega arith;
+  here = written v out n m w (omega arith) h;
   later = omega (arith, l, z);
 }
 

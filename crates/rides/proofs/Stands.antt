@@ -3,8 +3,8 @@ use Prim.Native.Nat.{ℕ, _+_, _≤_}
 use native.Mathlib.Omega.{arith}
 use mathlib.Core.Path.{_≡_, sym as inv, ap, _∙_, subst}
 use mathlib.Core.List.{List, _∷_, _++_}
-use lib.ListN.{length, take, drop, length-take, length-drop}
-use lib.Seq.{length-take-le, take-all}
+use lib.ListN.{length, take, drop, length-drop}
+use lib.Seq.{length-take-le}
 use Rattle.terms.specs.Number.{Numbered}
 use Rattle.search.specs.Next.{Book, Goal}
 use Rattle.search.specs.Answer.{answer-at}
@@ -25,19 +25,16 @@ module _ {P : Book} {q : Goal} {words saved : List ℕ} {x : Start} (y : Starts 
   abbrev w : ℕ
   w = x .place .answer
 
-  abbrev row : List ℕ
-  row = take (n + w) words
-
   pub start-within : n + w ≤ length words
-  start-within = omega (arith, y .opens .here .answer-within, length-take (n + w) words)
+  start-within = y .opens .here .answer-within
 
   pub start-small : n + w ≤ 8192
   start-small =
       let o = y .opens .here in
-      omega (arith, o .holds .size, length-take-le n row (o .within), o .answer .size, length-take-le w (drop n row) (omega (arith, length-drop n row, o .answer-within)))
+      omega (arith, o .holds .size, length-take-le n words (o .within), o .answer .size, length-take-le w (drop n words) (omega (arith, length-drop n words, o .answer-within)))
 
   module _ (part : List ℕ) (k : ℕ) (e : k ≡ n + w) (is : part ≡ take k words) where
-    part-is : part ≡ row
+    part-is : part ≡ take (n + w) words
     part-is = is ∙ ap (λ i. take i words) e
 
     pub part-long : length part ≡ n + w
@@ -48,10 +45,9 @@ module _ {P : Book} {q : Goal} {words saved : List ℕ} {x : Start} (y : Starts 
         let o = y .opens in
         let t = x .place .detector .step in
         let a = answer-at P q t in
-        let size : length row ≡ n + w = length-take-le (n + w) words start-within in
         record {
-          held = subst (λ r. RowIn r n (x .place .formulas) (o .formula ∷ o .rest) a) (take-all (n + w) row (omega (arith, size)) ∙ inv part-is)
-              (row-of row n w (o .here .answer-within) (subst (GoalIn (take n row) (x .place .formulas)) (o .is) (o .here .holds)) (o .here .answer));
+          held = subst (λ r. RowIn r n (x .place .formulas) (o .formula ∷ o .rest) a) (inv part-is)
+              (row-of words n w start-within (subst (GoalIn (take n words) (x .place .formulas)) (o .is) (o .here .holds)) (o .here .answer));
           first = o .front;
           answers = y .answers ∙ inv (answer-whole P q t (o .here .state .goal) (state-sound P q t (o .here .state) (o .here .reached) .1) .1);
           numbered = subst (λ g. Numbered (g ++ a)) (o .is) (numbered-at P q t (o .here .state) (y .numbered) (o .here .reached));
@@ -59,5 +55,4 @@ module _ {P : Book} {q : Goal} {words saved : List ℕ} {x : Start} (y : Starts 
 
     pub clean : (cells levels : List ℕ) → Free cells → length cells ≡ 8256 → length levels ≡ 1028 → Clean part words cells levels
     clean cells levels free cl ll =
-        let size : length part ≡ n + w = ap length part-is ∙ length-take-le (n + w) words start-within in
-        record { front = ap (λ i. take i words) size ∙ inv part-is; within = omega (arith, size, start-within); free = free; cells-long = cl; levels-long = ll }
+        record { front = ap (λ i. take i words) part-long ∙ inv part-is; within = omega (arith, part-long, start-within); free = free; cells-long = cl; levels-long = ll }

@@ -1,5 +1,5 @@
 -- A ride: from an open state to one that is held in words again, or to none.
-use Prim.Native.Nat.{ℕ, _+_, _≤_, _<_}
+use Prim.Native.Nat.{ℕ, _≤_, _<_}
 use mathlib.Core.Path.{_≡_}
 use mathlib.Core.Bool.{Bool, true, false}
 use mathlib.Core.Logic.{_⊎_}
@@ -34,7 +34,7 @@ pub record Lent (words cells rows saved out : List ℕ) : Type 0 where
 
 -- the state that a ride starts from is open, and the first of the words are its row; the query is numbered, as images have it
 pub record Starts (P : Book) (q : Goal) (words saved : List ℕ) (x : Start) : Type 0 where
-  pub opens : Opens P q (x .budget) (take (x .place .words + x .place .answer) words) saved (x .place)
+  pub opens : Opens P q (x .budget) words saved (x .place)
   pub answers : x .answers ≡ length q
   pub numbered : Numbered q
 
@@ -45,8 +45,7 @@ Standing-at words x s = (P : Book) (q : Goal) (saved : List ℕ) (y : Starts P q
 
 -- a later state is come to, and the first words of `out` are its row
 pub record Arrived (P : Book) (q : Goal) (budget since : ℕ) (saved out : List ℕ) (c : Come) : Type 0 where
-  pub here : Reached P q budget (take (c .words + c .answer) out) saved (c .detector) (c .words) (c .formulas) (c .answer) (c .kept)
-  pub inside : c .words + c .answer ≤ length out
+  pub here : Reached P q budget out saved (c .detector) (c .words) (c .formulas) (c .answer) (c .kept)
   pub later : since < c .detector .step
 
 abbrev pub Went : Book → Goal → ℕ → ℕ → List ℕ → List ℕ → Ridden → Type 0

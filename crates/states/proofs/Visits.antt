@@ -24,7 +24,7 @@ use Rattle.search.specs.Run.{state-at, Roomy}
 use Rattle.search.specs.RunLaws.{state-sound, state-next}
 use Rattle.words.specs.Word.{Fits, nodes}
 use Rattle.words.specs.Held.{FormulasIn, RowIn}
-use Rattle.words.specs.HeldLaws.{row-goal, row-answer}
+use Rattle.words.specs.HeldLaws.{row-goal, row-answer, row-of}
 use Rattle.detector.specs.declared.Detector.{Detector}
 use Rattle.detector.specs.Detecting.{due, moved}
 use Rattle.states.specs.declared.Place.{Place}
@@ -67,15 +67,35 @@ module _ {P : Book} {q : Goal} {budget : ℕ} {saved : List ℕ} {d : Detector} 
     keeps = x .keeps;
   }
 
--- the saved formula in other storage
+  -- the row in other storage
+  abbrev pub reheld : {row : List ℕ} {n m w : ℕ} (row′ : List ℕ) → take (n + w) row′ ≡ take (n + w) row → n + w ≤ length row′ → Reached P q budget row saved d n m w k → Reached P q budget row′ saved d n m w k
+  reheld {row} {n} {m} {w} row′ e l r =
+      let h = subst (λ x. RowIn x n m (r .state .goal) (answer-at P q (d .step))) (inv e) (row-of row n w (r .answer-within) (r .holds) (r .answer)) in
+      record {
+        state = r .state;
+        reached = r .reached;
+        roomy = r .roomy;
+        slim = r .slim;
+        allowed = r .allowed;
+        since = r .since;
+        least = r .least;
+        from = r .from;
+        holds = row-goal row′ n w l h;
+        within = omega (arith, l);
+        answer = row-answer row′ n w l h;
+        answer-within = l;
+        keeps = r .keeps;
+      }
+
+-- the saved formula too
 rekept : (saved saved′ : List ℕ) (k : ℕ) (o : Option Expr) → take k saved′ ≡ take k saved → length saved′ ≡ length saved → Kept saved k o → Kept saved′ k o
 rekept saved saved′ k none e l h = h
 rekept saved saved′ k (some f) e l h = (ap nodes e ∙ h .0, subst (Fits 4096) (inv e) (h .1), h .2, omega (arith, l, h .3))
 
-pub reopened : {P : Book} {q : Goal} {budget : ℕ} {row saved : List ℕ} {p : Place} (saved′ : List ℕ) → take (p .kept) saved′ ≡ take (p .kept) saved → length saved′ ≡ length saved
-    → Opens P q budget row saved p → Opens P q budget row saved′ p
-reopened {P} {q} {budget} {row} {saved} {p} saved′ e l o =
-    let r = o .here in
+pub reopened : {P : Book} {q : Goal} {budget : ℕ} {row saved : List ℕ} {p : Place} (row′ saved′ : List ℕ) → take (p .words + p .answer) row′ ≡ take (p .words + p .answer) row → p .words + p .answer ≤ length row′
+    → take (p .kept) saved′ ≡ take (p .kept) saved → length saved′ ≡ length saved → Opens P q budget row saved p → Opens P q budget row′ saved′ p
+reopened {P} {q} {budget} {row} {saved} {p} row′ saved′ same room e l o =
+    let r = reheld row′ same room (o .here) in
     record {
       here = record {
         state = r .state;
