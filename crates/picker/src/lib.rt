@@ -114,37 +114,15 @@ fn from_bytes(
     from_goal(words, &shelf[..used], &goal[..n], opened.formulas)
 }
 
-// The same with words for a book of up to 9,216 bytes, a quarter of those for any: clearing them takes time.
-fn from_short(book: &[u8], query: &[u8], shelf: &mut [u16], goal: &mut [u32]) -> Picked
-    requires { ⌜ Good (now book) (now query) 16387 ⌝ }
-    requires { ⌜ (length (now book) ≤ 9216) × (2308 ≤ length (now shelf)) × (4096 ≤ length (now goal)) ⌝ }
-    ensures { λ r. ⌜ r ≡ pickSaid (bookOf (now (book .entry))) (goalOf (now (query .entry))) (Pick.pick (bookOf (now (book .entry))) (goalOf (now (query .entry)))) ⌝ }
-{
-    let mut words = [0u32; 3072];
-    from_bytes(book, query, &mut words, shelf, goal)
-}
-
-// The same with words for any good book.
-fn from_long(book: &[u8], query: &[u8], shelf: &mut [u16], goal: &mut [u32]) -> Picked
-    requires { ⌜ Good (now book) (now query) 16387 ⌝ }
-    requires { ⌜ (2308 ≤ length (now shelf)) × (4096 ≤ length (now goal)) ⌝ }
-    ensures { λ r. ⌜ r ≡ pickSaid (bookOf (now (book .entry))) (goalOf (now (query .entry))) (Pick.pick (bookOf (now (book .entry))) (goalOf (now (query .entry)))) ⌝ }
-{
-    let mut words = [0u32; 10922];
-    from_bytes(book, query, &mut words, shelf, goal)
-}
-
 // The same with storage of its own.
 fn from_good(book: &[u8], query: &[u8]) -> Picked
     requires { ⌜ Good (now book) (now query) 16387 ⌝ }
     ensures { λ r. ⌜ r ≡ pickSaid (bookOf (now (book .entry))) (goalOf (now (query .entry))) (Pick.pick (bookOf (now (book .entry))) (goalOf (now (query .entry)))) ⌝ }
 {
+    let mut words = [0u32; 10922];
     let mut shelf = [0u16; 2308];
     let mut goal = [0u32; 4096];
-    if book.len() <= 9216 {
-        return from_short(book, query, &mut shelf, &mut goal);
-    }
-    from_long(book, query, &mut shelf, &mut goal)
+    from_bytes(book, query, &mut words, &mut shelf, &mut goal)
 }
 
 // "One call picks the clause." It lends no area, so that none can be too short.

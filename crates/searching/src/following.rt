@@ -1,6 +1,6 @@
 // The state after an open one.
-use detector::Detector;
 use resolve::Move;
+use rides::Come;
 use states::Place;
 use states::Turn;
 use states::closing::close;
@@ -8,44 +8,29 @@ use states::closing::close_stuck;
 use states::leftmost::copy_words;
 use states::leftmost::keep;
 use states::look;
-ghost use Prim.Native.Nat.{_≤_};
-ghost use mathlib.Core.Path.{_≡_};
-ghost use mathlib.Core.List.{_++_};
-ghost use lib.ListN.{length, take, drop};
-ghost use Rattle.states.specs.States.{Somewhere, Looked};
-ghost use Rattle.searching.specs.Searching.{Moving, Moved, Following, Followed};
+ghost use Rattle.searching.specs.Searching.{Moving, Moved, Following, Followed, Arriving, Entered};
 
-// The next row: so many words of what a step wrote come before the last of the words that the goal's storage has; and how many words are its goal's
-// and its answer's, and how many formulas its goal has.
+// The next row: how many words are its goal's and its answer's, and how many formulas its goal has.
 pub struct Onto {
-    pub copied: usize,
     pub words: usize,
     pub answer: usize,
     pub formulas: usize,
 }
 
-// The next row put in its place, and the state looked at.
-pub fn enter(
-    row: &mut [u32],
-    out: &[u32],
-    next: Onto,
-    saved: &[u32],
-    kept: usize,
-    detector: Detector,
-) -> Turn
-    requires { ⌜ (next .copied ≤ length (now out)) × (next .copied ≤ length (now row)) ⌝ }
-    requires { ⌜ Somewhere (take (next .copied) (now out) ++ drop (next .copied) (now row)) (now saved) detector (next .words) (next .formulas) (next .answer) kept ⌝ }
-    ensures row { λ _. ⌜ now (row .exit) ≡ take (next .copied) (now (out .entry)) ++ drop (next .copied) (now (row .entry)) ⌝ }
-    ensures looked { λ r. ⌜ Looked (now (row .exit)) (now (saved .entry)) detector (next .words) (next .formulas) (next .answer) kept r ⌝ }
+// The row that a ride or a step has written, put in its place, and the state looked at.
+pub fn arrive(goal: &mut [u32], saved: &[u32], out: &[u32], come: Come) -> Turn
+    requires { ⌜ Arriving (now goal) (now saved) (now out) come ⌝ }
+    ensures { λ r. ⌜ Entered (now (saved .entry)) (now (out .entry)) come (now (goal .exit)) r ⌝ }
 {
-    copy_words(out, row, next.copied);
+    let detector = come.detector;
+    copy_words(out, goal, come.words + come.answer);
     look(
-        row,
-        next.words,
-        next.formulas,
-        next.answer,
+        goal,
+        come.words,
+        come.formulas,
+        come.answer,
         saved,
-        kept,
+        come.kept,
         detector,
     )
 }
@@ -56,15 +41,19 @@ fn move_on(goal: &mut [u32], saved: &mut [u32], out: &[u32], place: Place, next:
     requires { ⌜ Moving (now goal) (now saved) (now out) place next ⌝ }
     ensures { λ r. ⌜ Moved (now (goal .entry)) (now (saved .entry)) (now (out .entry)) place next (now (goal .exit)) (now (saved .exit)) r ⌝ }
 {
-    let detector = place.detector;
+    let now = place.detector;
     let length = place.formulas as u32;
-    let due = detector.due(length);
-    let end = goal.len();
-    let from = end - (place.words + place.answer);
-    let kept = keep(&goal[from..end], place.front, saved, place.kept, due);
-    let ahead = detector.next(length, due);
-    let to = end - (next.words + next.answer);
-    enter(&mut goal[to..end], out, next, saved, kept, ahead)
+    let due = now.due(length);
+    let kept = keep(goal, place.front, saved, place.kept, due);
+    let detector = now.next(length, due);
+    let come = Come {
+        detector,
+        words: next.words,
+        answer: next.answer,
+        formulas: next.formulas,
+        kept,
+    };
+    arrive(goal, saved, out, come)
 }
 
 // The other tests of a state, from what the book says to its goal: "no head unifies, 22" or 26 in its place; "t equals the
@@ -105,7 +94,6 @@ pub fn follow(
                 return close(23, detector, 0, place.words, place.formulas, place.answer);
             }
             let row = Onto {
-                copied: words + answer,
                 words,
                 answer,
                 formulas,

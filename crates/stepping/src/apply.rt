@@ -169,51 +169,15 @@ fn from_bytes(
     )
 }
 
-// The same with words for a book of up to 9,216 bytes, a quarter of those for any: clearing them takes time.
-fn from_short(
-    book: &[u8],
-    query: &[u8],
-    clause: u32,
-    area: &mut [u8],
-    shelf: &mut [u16],
-    goal: &mut [u32],
-) -> Stepped
-    requires { ⌜ Good (now book) (now query) (length (now area)) ⌝ }
-    requires { ⌜ (length (now book) ≤ 9216) × (2308 ≤ length (now shelf)) × (4096 ≤ length (now goal)) ⌝ }
-    ensures { λ r. ⌜ Gives (apply-by (bookOf (now (book .entry))) (goalOf (now (query .entry))) clause) (now (area .entry)) r (now (area .exit)) ⌝ }
-{
-    let mut words = [0u32; 3072];
-    from_bytes(book, query, clause, area, &mut words, shelf, goal)
-}
-
-// The same with words for any good book.
-fn from_long(
-    book: &[u8],
-    query: &[u8],
-    clause: u32,
-    area: &mut [u8],
-    shelf: &mut [u16],
-    goal: &mut [u32],
-) -> Stepped
-    requires { ⌜ Good (now book) (now query) (length (now area)) ⌝ }
-    requires { ⌜ (2308 ≤ length (now shelf)) × (4096 ≤ length (now goal)) ⌝ }
-    ensures { λ r. ⌜ Gives (apply-by (bookOf (now (book .entry))) (goalOf (now (query .entry))) clause) (now (area .entry)) r (now (area .exit)) ⌝ }
-{
-    let mut words = [0u32; 10922];
-    from_bytes(book, query, clause, area, &mut words, shelf, goal)
-}
-
 // The same with storage of its own.
 fn from_good(book: &[u8], query: &[u8], clause: u32, area: &mut [u8]) -> Stepped
     requires { ⌜ Good (now book) (now query) (length (now area)) ⌝ }
     ensures { λ r. ⌜ Gives (apply-by (bookOf (now (book .entry))) (goalOf (now (query .entry))) clause) (now (area .entry)) r (now (area .exit)) ⌝ }
 {
+    let mut words = [0u32; 10922];
     let mut shelf = [0u16; 2308];
     let mut goal = [0u32; 4096];
-    if book.len() <= 9216 {
-        return from_short(book, query, clause, area, &mut shelf, &mut goal);
-    }
-    from_long(book, query, clause, area, &mut shelf, &mut goal)
+    from_bytes(book, query, clause, area, &mut words, &mut shelf, &mut goal)
 }
 
 // "A second applies a clause by its number", which is any number of 32 bits.

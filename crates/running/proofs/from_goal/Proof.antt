@@ -12,7 +12,6 @@ from-goal-spec =
     (λ c. search needs)
     (λ c. search needs)
     (λ c. search needs)
-    (λ c. search needs)
-    (λ c κs. let p = c .before .before .before .before .before .before .before .before .pre in (record { wordsLength = length-replicate {A = ℕ} 8448 0; rowsLength = length-replicate {A = ℕ} 30464 0; outLength = length-replicate {A = ℕ} 8192 0 }, (record { goalRoom = p .0; savedRoom = omega (arith, length-replicate {A = ℕ} 4096 0) }, (p .1, p .2, p .3))))
+    (λ c κs. let p = c .before .before .before .before .before .before .before .pre in ((length-replicate {A = ℕ} 30464 0, length-replicate {A = ℕ} 8192 0, record { goalLength = p .0; savedRoom = omega (arith, length-replicate {A = ℕ} 4096 0) }), (p .1, p .2, p .3)))
     (λ c. search needs)
     (λ c. search needs))
