@@ -2,7 +2,6 @@
 use Prim.Native.Nat.{ℕ, zero, suc, _+_, _-_, _<_, _≤_}
 use native.Mathlib.Omega.{arith}
 use mathlib.Core.Path.{_≡_, refl, sym as inv, ap, ap₂, _∙_, subst}
-use mathlib.Core.Bool.{true}
 use mathlib.Core.Logic.{inl, inr}
 use mathlib.Core.List.{List, [], _∷_, _++_, map, map-append, append-nil, append-assoc}
 use lib.ListN.{length, take, drop, length-append, length-map, length-take, length-drop, take-append-drop}
@@ -59,7 +58,7 @@ module _ {heap : List ℕ} {p : Parts} (placed : Placed heap p) (st : Standing h
   rest-first = first-whole heap k (p .rest) rest-rows
 
   pub halved-split : {near : Parts} {far : Walk} {q : ℕ} → q ≡ p .rest + length (rows heap 1 (p .rest)) → far ≡ record { at = q; due = p .others - 1; depth = 0 }
-      → near ≡ record { body = p .body; bodies = p .bodies; rest = p .rest; others = 1; answer = p .answer; answers = p .answers; row = p .row; bound = p .bound; numbered = true } → Halved heap p near far
+      → near ≡ record { body = p .body; bodies = p .bodies; rest = p .rest; others = 1; answer = p .answer; answers = p .answers; row = p .row; bound = p .bound } → Halved heap p near far
   halved-split {near} {far} {q} eq ef en = rw ef (rw en (record {
     placed = record { body = placed .body; rest = rest-first; answer = placed .answer };
     alone = refl;
@@ -153,7 +152,7 @@ module _ {heap : List ℕ} {p near : Parts} {far : Walk} (st : Standing heap p) 
       (subst (In v) (rows-taken heap (far .due) s (p .answer) (h .ends) ∙ ap (take (p .answer - s)) (inv (nodes-drop s heap)) ∙ inv (nodes-take (p .answer - s) (drop s heap)) ∙ ap nodes (inv rest-words)) i)
 
   module _ {cells names out names′ out′ : List ℕ} {pen : Pen} (x : Put heap cells names out (record { at = 0; count = 0 }) (goal-part heap near) 4096 names′ out′ pen) (l : pen .at ≤ 4096)
-      (u : Undoable cells names′ (p .bound)) (steady : Steady heap names′ (record { from = s; end = p .row; bound = p .bound; count = pen .count })) (numbered : p .numbered ≡ true) (θ : Subst) (solved : Solved heap cells θ) where
+      (u : Undoable cells names′ (p .bound)) (steady : Steady heap names′ (record { from = s; end = p .row; bound = p .bound; count = pen .count })) (θ : Subst) (solved : Solved heap cells θ) where
     abbrev E : Expr
     E = goal-part heap near θ
 
@@ -182,7 +181,7 @@ module _ {heap : List ℕ} {p near : Parts} {far : Walk} (st : Standing heap p) 
     goal-size = omega (arith, front .at, ap length goal-is, length-append E S, h .ends)
 
     numbered-tail : number seen (S ++ A) ≡ S ++ A
-    numbered-tail = subst (λ e. number seen e ≡ e) tail-is (tail-numbered steady order (st .inside) (st .fits) (st .numbered numbered) seen (front .named [] (no-names (table names) (back names))))
+    numbered-tail = subst (λ e. number seen e ≡ e) tail-is (tail-numbered steady order (st .inside) (st .fits) (st .numbered) seen (front .named [] (no-names (table names) (back names))))
 
     rest-numbered : number seen S ≡ S
     rest-numbered =

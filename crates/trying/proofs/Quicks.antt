@@ -111,7 +111,7 @@ module _ {book shelf words cells tables : List ℕ} {x : Shape} {i count : ℕ} 
     here-standing : Standing (laid row clause) p
     here-standing =
         standing row clause (x .goal) (x .formulas) head many f g a (clause-at P i) (s .shaped .row) held p at-body (ap (λ y. y .bodies) e) at-rest others (ap (λ y. y .answer) e) answers
-        (ap (λ y. y .row) e ∙ inv (s .shaped .long)) (λ n. s .shaped .numbered (inv (ap (λ y. y .numbered) e) ∙ n))
+        (ap (λ y. y .row) e ∙ inv (s .shaped .long)) (s .shaped .numbered)
 
     pub here-undoable : Undoable cells tables (p .bound)
     here-undoable = subst (Undoable cells tables) (inv (ap (λ y. y .bound) e)) (s .trial .fitted .undoable)

@@ -50,7 +50,7 @@ module _ (row clause : List ℕ) (w n k d : ℕ) (f : Expr) (g a : Goal) (c : Cl
     answer = subst (Whole heap (x .answers)) (inv at-answer) (answer-whole row clause w n k d f g a c p q (x .answers) answers);
   }
 
-  pub standing : x .row ≡ length row → (x .numbered ≡ true → Numbered ((f ∷ g) ++ a)) → Standing heap x
+  pub standing : x .row ≡ length row → Numbered ((f ∷ g) ++ a) → Standing heap x
   standing end numbered = record {
     rest-end = omega (arith, at-rest, ap length rest-is, goal-words row clause w n k d f g a c p q, length-append f (flat g), at-answer);
     answer-end = omega (arith, at-answer, ap length answer-is, goal-words row clause w n k d f g a c p q, row-length row clause w n k d f g a c p q, length-append (f ++ flat g) (flat a), end);
@@ -58,7 +58,7 @@ module _ (row clause : List ℕ) (w n k d : ℕ) (f : Expr) (g a : Goal) (c : Cl
     small = omega (arith, end, at-answer, p .answer .size, length-drop w row);
     goal-fits = subst (Fits 4096) (inv front) (p .goal .fit);
     fits = subst (Fits 8192) (inv whole) (row-fits row clause w n k d f g a c p q);
-    numbered = λ t. subst (λ l. number [] (nodes l) ≡ nodes l) (inv whole) (subst (λ e. number [] e ≡ e) (flat-append (f ∷ g) a ∙ inv (row-nodes row clause w n k d f g a c p q)) (inv (flat-number [] ((f ∷ g) ++ a)) ∙ ap flat (numbered t)));
+    numbered = subst (λ l. number [] (nodes l) ≡ nodes l) (inv whole) (subst (λ e. number [] e ≡ e) (flat-append (f ∷ g) a ∙ inv (row-nodes row clause w n k d f g a c p q)) (inv (flat-number [] ((f ∷ g) ++ a)) ∙ ap flat numbered));
   }
     where
       whole : take (x .row) heap ≡ row

@@ -1,7 +1,6 @@
 -- The next goal and answer, written off the heap.
 use Prim.Native.Nat.{ℕ, _+_, _-_, _<_, _≤_}
 use mathlib.Core.Path.{_≡_}
-use mathlib.Core.Bool.{true}
 use mathlib.Core.List.{List, [], _++_}
 use lib.ListN.{length, take, drop}
 use Rattle.terms.specs.Node.{Expr}
@@ -22,7 +21,7 @@ pub record Placed (heap : List ℕ) (p : Parts) : Type 0 where
   pub rest : Whole heap (p .others) (p .rest)
   pub answer : Whole heap (p .answers) (p .answer)
 
--- the answer stands behind the rest, and ends where the row does; and where the row is said to be numbered it is
+-- the answer stands behind the rest, and ends where the row does; and the row is numbered
 pub record Standing (heap : List ℕ) (p : Parts) : Type 0 where
   pub rest-end : p .rest + length (rows heap (p .others) (p .rest)) ≡ p .answer
   pub answer-end : p .answer + length (rows heap (p .answers) (p .answer)) ≡ p .row
@@ -30,7 +29,7 @@ pub record Standing (heap : List ℕ) (p : Parts) : Type 0 where
   pub small : p .row ≤ p .answer + 4096
   pub goal-fits : Fits 4096 (take (p .answer) heap)
   pub fits : Fits 8192 (take (p .row) heap)
-  pub numbered : p .numbered ≡ true → number [] (nodes (take (p .row) heap)) ≡ nodes (take (p .row) heap)
+  pub numbered : number [] (nodes (take (p .row) heap)) ≡ nodes (take (p .row) heap)
 
 -- what the next goal is before it is numbered, and the next answer
 abbrev pub goal-part : List ℕ → Parts → Subst → Expr

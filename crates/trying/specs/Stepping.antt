@@ -1,7 +1,6 @@
 -- The step by the first clause that fits, found on the heap.
 use Prim.Native.Nat.{ℕ, suc, _+_, _-_, _<_, _≤_}
 use mathlib.Core.Path.{_≡_}
-use mathlib.Core.Bool.{true}
 use mathlib.Core.List.{List, _∷_, _++_}
 use lib.ListN.{length, getD, take}
 use Rattle.terms.specs.Node.{Expr}
@@ -29,7 +28,6 @@ parts shelf x n i count = record {
   answers = x .answers;
   row = x .row;
   bound = count;
-  numbered = x .numbered;
 }
 
 abbrev pub concluded : Next → ℕ → ℕ → Quick
@@ -44,7 +42,7 @@ pub record Shaped (w : List ℕ) (x : Shape) (f : Expr) (g a : Goal) : Type 0 wh
   pub long : length w ≡ x .row
   pub first : x .first ≡ length f
   pub answers : x .answers ≡ length a
-  pub numbered : x .numbered ≡ true → Numbered ((f ∷ g) ++ a)
+  pub numbered : Numbered ((f ∷ g) ++ a)
 
 -- the trial of the clause number i stands
 pub record Set-up (book shelf words cells tables : List ℕ) (x : Shape) (i count : ℕ) (P : Book) (f : Expr) (g a : Goal) : Type 0 where

@@ -23,8 +23,8 @@ ghost use Rattle.keeping.specs.Keeping.{Steady};
 ghost use Rattle.trials.specs.Trying.{Undoable};
 ghost use Rattle.trying.specs.Carrying.{Placed, Standing, Halved, goal-part, visited, Put, Carried, Still};
 
-// Where the clause's body, the rest of the goal and the answer stand on the heap, and how many formulas each has; where the row ends, how many of its variables
-// the trial has bound, and whether goal and answer are known to be numbered by first appearance.
+// Where the clause's body, the rest of the goal and the answer stand on the heap, and how many formulas each has; where the row ends, and how many of its variables
+// the trial has bound.
 pub struct Parts {
     pub body: usize,
     pub bodies: usize,
@@ -34,7 +34,6 @@ pub struct Parts {
     pub answers: usize,
     pub row: usize,
     pub bound: usize,
-    pub numbered: bool,
 }
 
 // Nothing is known; the goal is too long; the answer is; or so many words of the goal are written, and so many of the answer.
@@ -81,27 +80,23 @@ pub struct Halves {
     pub far: Walk,
 }
 
-// Only where goal and answer are numbered may what is behind stay, so that the goal is not halved otherwise.
 fn in_halves(heap: &[u32], p: Parts) -> Halves
     requires { ⌜ Valids (now heap) × (length (now heap) < 65536) × Placed (now heap) p × Standing (now heap) p ⌝ }
     ensures { λ r. ⌜ Halved (now (heap .entry)) p (r .near) (r .far) ⌝ }
 {
-    if p.numbered {
-        if 0 < p.others {
-            let near = Parts {
-                body: p.body,
-                bodies: p.bodies,
-                rest: p.rest,
-                others: 1,
-                answer: p.answer,
-                answers: p.answers,
-                row: p.row,
-                bound: p.bound,
-                numbered: true,
-            };
-            let far = rows_at(past(heap, p.rest), p.others - 1);
-            return Halves { near, far };
-        }
+    if 0 < p.others {
+        let near = Parts {
+            body: p.body,
+            bodies: p.bodies,
+            rest: p.rest,
+            others: 1,
+            answer: p.answer,
+            answers: p.answers,
+            row: p.row,
+            bound: p.bound,
+        };
+        let far = rows_at(past(heap, p.rest), p.others - 1);
+        return Halves { near, far };
     }
     let far = rows_at(p.answer, 0);
     Halves { near: p, far }
@@ -147,21 +142,18 @@ fn write_far(
 fn kept(heap: &[u32], rows: &[u16], p: Parts, s: usize, count: usize) -> bool
     requires { ⌜ Valids (now heap) × (length (now heap) < 65536) × (length (now rows) ≡ CELLS) ⌝ }
     requires { ⌜ (s ≤ p .row) × (p .row ≤ length (now heap)) × (p .bound ≤ 8448) × (count ≤ 8256) ⌝ }
-    ensures { λ r. ⌜ (r ≡ true → (p .numbered ≡ true) × Steady (now (heap .entry)) (now (rows .entry)) (record { from = s; end = p .row; bound = p .bound; count = count })) ⌝ }
+    ensures { λ r. ⌜ (r ≡ true → Steady (now (heap .entry)) (now (rows .entry)) (record { from = s; end = p .row; bound = p .bound; count = count })) ⌝ }
 {
-    if p.numbered {
-        return stays(
-            heap,
-            rows,
-            Tail {
-                from: s,
-                end: p.row,
-                bound: p.bound,
-                count,
-            },
-        );
-    }
-    false
+    stays(
+        heap,
+        rows,
+        Tail {
+            from: s,
+            end: p.row,
+            bound: p.bound,
+            count,
+        },
+    )
 }
 
 // The row from s on, put behind what is written.

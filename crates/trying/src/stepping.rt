@@ -13,7 +13,6 @@ use words::shelf::HEAD;
 use words::shelf::START;
 use words::shelf::entry;
 ghost use mathlib.Core.Path.{_≡_};
-ghost use mathlib.Core.Bool.{true};
 ghost use mathlib.Core.List.{List, _∷_, _++_};
 ghost use Prim.Native.Nat.{ℕ, _+_, _-_, _<_, _≤_};
 ghost use lib.ListN.{length, getD, take};
@@ -29,14 +28,13 @@ ghost use Rattle.matching.specs.TrialLaws.{Free};
 ghost use Rattle.trying.specs.Stepping.{parts, concluded, Shaped, Set-up, Quickly, Quickened};
 
 // Of a row of words, a goal with its answer behind it: how many words it has, how many of them are the goal's and how many the goal's first
-// formula, how many formulas goal and answer have, and whether the two are known to be numbered by first appearance.
+// formula, and how many formulas goal and answer have. The two are numbered by first appearance.
 pub struct Shape {
     pub row: usize,
     pub goal: usize,
     pub first: usize,
     pub formulas: usize,
     pub answers: usize,
-    pub numbered: bool,
 }
 
 // What a trial on the heap comes to; or nothing is known.
@@ -61,7 +59,6 @@ fn parts_of(shelf: &[u16], x: Shape, i: usize, bound: usize) -> Parts
         answers: x.answers,
         row: x.row,
         bound,
-        numbered: x.numbered,
     }
 }
 
@@ -138,18 +135,16 @@ fn on_heap(
     }
 }
 
-// Of a row: how many words are its goal's and how many its goal's first formula's, how many formulas goal and answer have, and whether the two are
-// known to be numbered by first appearance.
+// Of a row: how many words are its goal's and how many its goal's first formula's, and how many formulas goal and answer have.
 pub struct Sides {
     pub words: usize,
     pub first: usize,
     pub formulas: usize,
     pub answers: usize,
-    pub numbered: bool,
 }
 
 fn shape_of(row: &[u32], sides: Sides) -> Shape
-    ensures { λ r. ⌜ ((f : Expr) (g a : Goal) → RowIn (now (row .entry)) (sides .words) (sides .formulas) (f ∷ g) a → sides .answers ≡ length a → sides .first ≡ length f → (sides .numbered ≡ true → Numbered ((f ∷ g) ++ a)) → Shaped (now (row .entry)) r f g a) × (r .row ≡ length (now (row .entry))) ⌝ }
+    ensures { λ r. ⌜ ((f : Expr) (g a : Goal) → RowIn (now (row .entry)) (sides .words) (sides .formulas) (f ∷ g) a → sides .answers ≡ length a → sides .first ≡ length f → Numbered ((f ∷ g) ++ a) → Shaped (now (row .entry)) r f g a) × (r .row ≡ length (now (row .entry))) ⌝ }
 {
     Shape {
         row: row.len(),
@@ -157,7 +152,6 @@ fn shape_of(row: &[u32], sides: Sides) -> Shape
         first: sides.first,
         formulas: sides.formulas,
         answers: sides.answers,
-        numbered: sides.numbered,
     }
 }
 
@@ -173,8 +167,8 @@ pub fn advance(
     cells: &mut [u16],
 ) -> Move
     requires { ⌜ Store (now words) (now rows) (now out) × (length (now cells) ≡ 8256) × Free (now cells) ⌝ }
-    requires { ⌜ ((P : Book) × BookOn (now book) (now shelf) P) × ((f : Expr) × (g : Goal) × (a : Goal) × RowIn (now row) (sides .words) (sides .formulas) (f ∷ g) a × (sides .answers ≡ length a) × (sides .first ≡ length f) × (sides .numbered ≡ true → Numbered ((f ∷ g) ++ a))) ⌝ }
-    ensures advanced { λ r. ⌜ ((P : Book) (f : Expr) (g a : Goal) → BookOn (now (book .entry)) (now (shelf .entry)) P → RowIn (now (row .entry)) (sides .words) (sides .formulas) (f ∷ g) a → sides .answers ≡ length a → sides .first ≡ length f → (sides .numbered ≡ true → Numbered ((f ∷ g) ++ a)) → Advanced P (f ∷ g) a (now (out .exit)) r) ⌝ }
+    requires { ⌜ ((P : Book) × BookOn (now book) (now shelf) P) × ((f : Expr) × (g : Goal) × (a : Goal) × RowIn (now row) (sides .words) (sides .formulas) (f ∷ g) a × (sides .answers ≡ length a) × (sides .first ≡ length f) × Numbered ((f ∷ g) ++ a)) ⌝ }
+    ensures advanced { λ r. ⌜ ((P : Book) (f : Expr) (g a : Goal) → BookOn (now (book .entry)) (now (shelf .entry)) P → RowIn (now (row .entry)) (sides .words) (sides .formulas) (f ∷ g) a → sides .answers ≡ length a → sides .first ≡ length f → Numbered ((f ∷ g) ++ a) → Advanced P (f ∷ g) a (now (out .exit)) r) ⌝ }
     ensures free { λ _. ⌜ Free (now (cells .exit)) ⌝ }
 {
     let x = shape_of(row, sides);

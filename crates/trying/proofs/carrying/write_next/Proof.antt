@@ -23,7 +23,7 @@ write-next-spec =
     (λ c κs. let k = c .before .before .before .before .before .before .before .before .before .before .before .before .before .before .before .before .before .before .before .before .before .before .before .pre in let h = c .before .before .before .before .before .before .before .before .before .before .before .before .before .before .before .before .before .before .in-halves .ensures in let x = c .before .before .before .before .before .before .before .before .before .before .before .before .before .write-goal .ensures .0 in let l = x .ends (c .before .before .before .before .before .before .if1 .left) (c .before .before .before .before .if2 .left) in (before-answer (k .0 .3) h, before-end (k .0 .3) h, k .0 .3 .inside, k .0 .3 .small, l, c .before .before .before .before .before .before .before .before .before .before .before .before .before .write-goal .kept .1 .1 .1 .1 .0 ∙ k .1 .2))
     (λ c. search needs)
     (λ c. search needs)
-    (λ c. let k = c .before .before .before .before .before .before .before .before .before .before .before .before .before .before .before .before .before .before .before .before .before .before .before .before .before .before .pre in let h = c .before .before .before .before .before .before .before .before .before .before .before .before .before .before .before .before .before .before .before .before .before .in-halves .ensures in let x = c .before .before .before .before .before .before .before .before .before .before .before .before .before .before .before .before .write-goal .ensures .0 in let l = x .ends (c .before .before .before .before .before .before .before .before .before .if1 .left) (c .before .before .before .before .before .before .before .if2 .left) in let t = c .before .before .before .before .before .kept .ensures (c .before .before .before .before .if3 .taken) in (λ θ s. still-carried (k .0 .3) h x l (undoable-later (k .0 .4) _ (c .before .before .before .before .before .before .before .before .before .before .before .before .before .before .before .before .write-goal .ensures .1)) (t .1) (t .0) θ s (c .before .before .still .last .1 .0) (c .before .before .still .result) (c .before .before .still .ensures), c .before .before .before .before .before .before .before .before .before .before .before .before .before .before .before .before .write-goal .ensures .1))
+    (λ c. let k = c .before .before .before .before .before .before .before .before .before .before .before .before .before .before .before .before .before .before .before .before .before .before .before .before .before .before .pre in let h = c .before .before .before .before .before .before .before .before .before .before .before .before .before .before .before .before .before .before .before .before .before .in-halves .ensures in let x = c .before .before .before .before .before .before .before .before .before .before .before .before .before .before .before .before .write-goal .ensures .0 in let l = x .ends (c .before .before .before .before .before .before .before .before .before .if1 .left) (c .before .before .before .before .before .before .before .if2 .left) in let t = c .before .before .before .before .before .kept .ensures (c .before .before .before .before .if3 .taken) in (λ θ s. still-carried (k .0 .3) h x l (undoable-later (k .0 .4) _ (c .before .before .before .before .before .before .before .before .before .before .before .before .before .before .before .before .write-goal .ensures .1)) t θ s (c .before .before .still .last .1 .0) (c .before .before .still .result) (c .before .before .still .ensures), c .before .before .before .before .before .before .before .before .before .before .before .before .before .before .before .before .write-goal .ensures .1))
     (λ c. search needs)
     (λ c κs. let k = c .before .before .before .before .before .before .before .before .before .before .before .before .before .before .before .before .before .before .before .before .before .before .before .before .before .pre in let h = c .before .before .before .before .before .before .before .before .before .before .before .before .before .before .before .before .before .before .before .before .in-halves .ensures in let x = c .before .before .before .before .before .before .before .before .before .before .before .before .before .before .before .write-goal .ensures .0 in let l = x .ends (c .before .before .before .before .before .before .before .before .if1 .left) (c .before .before .before .before .before .before .if2 .left) in ((k .0 .0, k .0 .1, k .0 .2 .answer, h .whole, h .alone), ((k .1 .0, c .before .before .before .before .before .before .before .before .before .before .before .before .before .before .before .write-goal .kept .1 .1 .1 .0 ∙ k .1 .1, search needs, c .before .before .before .before .before .before .before .before .before .before .before .before .before .before .before .write-goal .kept .1 .1 .1 .1 .0 ∙ k .1 .2), ((_, x .fits l (k .0 .1 .0) (k .0 .1 .1) .named _ (no-names _ _)), x .few l, l))))
     (λ c. search needs)
