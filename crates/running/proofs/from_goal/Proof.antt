@@ -11,7 +11,7 @@ from-goal-spec =
     (tie.spec
     (λ c. search needs)
     (λ c. search needs)
+    (λ c κs. let p = c .before .before .before .before .before .before .before .before .pre in ((p .4, length-replicate {A = ℕ} 8192 0, record { goalLength = p .0; savedRoom = omega (arith, length-replicate {A = ℕ} 4096 0) }), (p .1, p .2, p .3)))
     (λ c. search needs)
-    (λ c κs. let p = c .before .before .before .before .before .before .before .pre in ((length-replicate {A = ℕ} 30464 0, length-replicate {A = ℕ} 8192 0, record { goalLength = p .0; savedRoom = omega (arith, length-replicate {A = ℕ} 4096 0) }), (p .1, p .2, p .3)))
     (λ c. search needs)
     (λ c. search needs))

@@ -1,7 +1,5 @@
 use native.Mathlib.Omega.{arith}
-use Prim.Native.Nat.{ℕ}
-use lib.ListN.{length-replicate}
-use Rattle.areas.specs.Rooms.{book-rooms}
+use Rattle.areas.specs.Rooms.{book-short}
 use borrow.Author.Needs.{needs}
 use Rattle.running.proofs.from_long.Statement.{statement}
 use Rattle.running.proofs.from_long.Tie as tie
@@ -11,8 +9,7 @@ from-long-spec =
     tie.close
     (tie.spec
     (λ c. search needs)
-    (λ c κs. let p = c .before .before .before .before .before .before .before .before .before .before .before .pre in (p .0, (book-rooms (λ i. omega (arith, c .before .before .before .before .before .before .before .before .before .before .shared-slice-known .given i)) (p .0 .book-good) (omega (arith, length-replicate {A = ℕ} 10922 0)) (p .1 .0), p .1 .1)))
-    (λ c. search needs)
+    (λ c κs. let b = c .before .before .before .before .before .before .before .before .before in (b .pre .0, (book-short (b .args .book .now) (λ i. omega (arith, c .before .before .before .before .before .before .before .before .shared-slice-known .given i)) (b .pre .0 .book-good), b .pre .1)))
     (λ c. search needs)
     (λ c. search needs)
     (λ c. search needs)
