@@ -3,20 +3,20 @@ use Prim.Native.Nat.{ℕ, _+_, _-_, _<_, _≤_}
 use native.Mathlib.Omega.{arith}
 use native.Mathlib.Decide.{ℕ-discrete}
 use mathlib.Core.Path.{_≡_, refl, sym as inv, ap, ap₂, _∙_, subst}
-use mathlib.Core.List.{List, [], _∷_, _++_, map}
-use lib.ListN.{length, getD, take, drop, length-drop, length-take}
+use mathlib.Core.List.{List, [], _∷_, map}
+use lib.ListN.{length, take, length-drop, length-take}
 use lib.Seq.{take-take, take-at, length-take-le}
 use Rattle.terms.specs.Node.{Expr}
 use Rattle.search.specs.Next.{Book, Goal}
 use Rattle.words.specs.Word.{kindOf}
-use Rattle.words.specs.Held.{GoalIn, RowIn, BookOn}
+use Rattle.words.specs.Held.{RowIn, BookOn}
 use Rattle.numbering.specs.Naming.{spare}
 use Rattle.picking.specs.Laying.{moved, Appended}
 use Rattle.picking.specs.Picking.{Picked}
 use Rattle.picking.proofs.Appends.{moved-var, moved-plain}
 use Rattle.resolve.proofs.Advances.{moves}
 use Rattle.matching.specs.Binding.{Trailed}
-use Rattle.trials.specs.Trying.{trail, Undoable, Fronted, clause-words, laid, Held-trial, Sought}
+use Rattle.trials.specs.Trying.{Undoable, Fronted, clause-words, Held-trial, Sought}
 use Rattle.trying.specs.Stepping.{Shaped, Set-up, Quickly, Quickened}
 use Rattle.trials.specs.declared.Found.{Found}
 use Rattle.trials.specs.declared.Found.the-variants as Found
@@ -29,7 +29,7 @@ use Rattle.trying.specs.declared.stepping.Quick.the-variants.{Unsure, Su
 moved-none : (u : ℕ) → moved 0 u ≡ u
 moved-none u = elim (ℕ-discrete (kindOf u) 1) [ yes k ↦ moved-var 0 u k ∙ (omega arith) | no n ↦ moved-plain 0 u n ]
 
-pub moved-nothing : (l : List ℕ) → map (moved 0) l ≡ l
+moved-nothing : (l : List ℕ) → map (moved 0) l ≡ l
 moved-nothing [] = refl
 moved-nothing (u ∷ l) = ap₂ _∷_ (moved-none u) (moved-nothing l)
 

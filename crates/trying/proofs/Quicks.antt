@@ -2,7 +2,7 @@
 use Prim.Native.Nat.{ℕ, suc, _+_, _-_, _<_, _≤_}
 use native.Mathlib.Omega.{arith}
 use mathlib.Core.Path.{_≡_, refl, sym as inv, ap, _∙_, subst}
-use mathlib.Core.List.{List, [], _∷_}
+use mathlib.Core.List.{List}
 use lib.ListN.{length, getD, take, drop, length-drop}
 use lib.Seq.{length-take-le}
 use Rattle.terms.specs.Node.{Expr}
@@ -14,15 +14,15 @@ use Rattle.words.specs.Held.{ClauseIn, starts, heads, bodies}
 use Rattle.heap.specs.Heap.{rows, Made, Solved}
 use Rattle.resolve.specs.Advancing.{Follows}
 use Rattle.resolve.specs.declared.Move.the-variants.{Full}
-use Rattle.trials.specs.Trying.{Undoable, clause-words, laid}
-use Rattle.trying.specs.Carrying.{Placed, Standing, Carried}
+use Rattle.trials.specs.Trying.{clause-words, laid}
+use Rattle.trying.specs.Carrying.{Placed, Carried}
 use Rattle.trying.specs.Stepping.{parts, concluded, Set-up, Quickly}
 use Rattle.trying.specs.declared.carrying.Parts.{Parts}
 use Rattle.trying.specs.declared.carrying.Next.{Next}
 use Rattle.trying.specs.declared.carrying.Next.the-variants as Next
 use Rattle.trying.specs.declared.stepping.Shape.{Shape}
 use Rattle.trials.proofs.Heaps.{flat-rows}
-use Rattle.trying.proofs.Steps.{placed, standing, ends-many, ends-full, ends-over, ends-done}
+use Rattle.trying.proofs.Steps.{placed, ends-many, ends-full, ends-over, ends-done}
 
 module _ {book shelf words cells tables : List ℕ} {x : Shape} {i count : ℕ} {P : Book} {f : Expr} {g a : Goal} (s : Set-up book shelf words cells tables x i count P f g a) where
   abbrev row : List ℕ
@@ -57,7 +57,7 @@ module _ {book shelf words cells tables : List ℕ} {x : Shape} {i count : ℕ} 
   pub some-formulas : 0 < x .formulas
   some-formulas = omega (arith, s .shaped .row .goal .count)
 
-  pub parts-small : (p : Parts) → p ≡ parts shelf x (length P) i count → p .bodies + p .others ≤ 1024
+  pub parts-small : (p : Parts) → p ≡ parts shelf x (length P) i → p .bodies + p .others ≤ 1024
   parts-small p e =
       omega (arith, ap (λ y. y .bodies) e, ap (λ y. y .others) e, s .shaped .row .goal .few, body-few)
     where
@@ -86,7 +86,7 @@ module _ {book shelf words cells tables : List ℕ} {x : Shape} {i count : ℕ} 
     pub lent-solved : Solved lent cells (s .trial .fitted .unifier)
     lent-solved = subst (λ h. Solved h cells (s .trial .fitted .unifier)) (inv lent-is) (s .trial .fitted .solved)
 
-  module _ (p : Parts) (e : p ≡ parts shelf x (length P) i count) where
+  module _ (p : Parts) (e : p ≡ parts shelf x (length P) i) where
     at-body : p .body ≡ length row + head
     at-body = omega (arith, ap (λ y. y .body) e, s .shaped .long)
 
@@ -108,23 +108,12 @@ module _ {book shelf words cells tables : List ℕ} {x : Shape} {i count : ℕ} 
     here-placed : Placed (laid row clause) p
     here-placed = placed row clause (x .goal) (x .formulas) head many f g a (clause-at P i) (s .shaped .row) held p at-body (ap (λ y. y .bodies) e) at-rest others (ap (λ y. y .answer) e) answers
 
-    here-standing : Standing (laid row clause) p
-    here-standing =
-        standing row clause (x .goal) (x .formulas) head many f g a (clause-at P i) (s .shaped .row) held p at-body (ap (λ y. y .bodies) e) at-rest others (ap (λ y. y .answer) e) answers
-        (ap (λ y. y .row) e ∙ inv (s .shaped .long)) (s .shaped .numbered)
-
-    pub here-undoable : Undoable cells tables (p .bound)
-    here-undoable = subst (Undoable cells tables) (inv (ap (λ y. y .bound) e)) (s .trial .fitted .undoable)
-
     pub quick-many : (out : List ℕ) → 512 < p .bodies + p .others → Follows P i f g a out Full
     quick-many out l = ends-many row clause (x .goal) (x .formulas) head many f g a (clause-at P i) (s .shaped .row) held p at-body (ap (λ y. y .bodies) e) at-rest others (ap (λ y. y .answer) e) answers θ general l
 
     module _ (r : ℕ) (end : r ≡ x .row + (getD (starts (length P) shelf) (i + 1) 0 - from)) where
       pub lent-placed : Placed (lent r end) p
       lent-placed = subst (λ h. Placed h p) (inv (lent-is r end)) here-placed
-
-      pub lent-standing : Standing (lent r end) p
-      lent-standing = subst (λ h. Standing h p) (inv (lent-is r end)) here-standing
 
       pub quickly : (few : p .bodies + p .others ≤ 512) (out : List ℕ) → length out ≡ 8192 → (v : Next) → ((τ : Subst) → Solved (lent r end) cells τ → Carried (lent r end) p τ out v)
           → Quickly P i f g a out (concluded v i (p .bodies + p .others))

@@ -3,31 +3,30 @@ use Prim.Native.Nat.{ℕ, _+_, _-_, _%_, _<_, _≤_}
 use native.Mathlib.Omega.{arith}
 use mathlib.Core.Path.{_≡_, refl, sym as inv, ap, ap₂, _∙_, subst}
 use mathlib.Core.Bool.{true, false}
-use mathlib.Core.List.{List, [], _∷_, _++_, map}
-use lib.ListN.{length, getD, take, drop, length-drop, length-append}
-use lib.Seq.{take-at, take-take, drop-at, length-take-le}
+use mathlib.Core.List.{List, [], _∷_, _++_}
+use lib.ListN.{length, getD, take, drop, length-drop}
+use lib.Seq.{take-at, drop-at, length-take-le}
 use Rattle.terms.specs.Node.{Expr}
 use Rattle.terms.specs.Subst.{In, Subst, apply, MostGeneral}
 use Rattle.terms.specs.SubstLaws.{apply-append}
 use Rattle.terms.specs.Rename.{rename, Apart}
-use Rattle.terms.specs.Number.{number, seen-after, Numbered}
+use Rattle.terms.specs.Number.{number, seen-after}
 use Rattle.terms.specs.NumberLaws.{number-length}
 use Rattle.search.specs.Next.{Clause, Goal, Resolved}
 use Rattle.search.specs.Room.{fits}
 use Rattle.search.specs.Answer.{small}
-use Rattle.words.specs.Word.{kindOf, Fit, Fits, nodes}
+use Rattle.words.specs.Word.{Fit, Fits, nodes}
 use Rattle.words.specs.WordLaws.{each-take, each-drop, nodes-take, nodes-drop, in-words}
-use Rattle.words.specs.Flat.{flat, flat-append, flat-number}
+use Rattle.words.specs.Flat.{flat}
 use Rattle.words.specs.Held.{RowIn, ClauseIn}
-use Rattle.heap.specs.Heap.{rows, Whole, Solved}
+use Rattle.heap.specs.Heap.{rows, Whole}
 use Rattle.applying.specs.Applying.{Onward}
 use Rattle.applying.proofs.Onwards.{h, b, onward, goal-image, answer-image, goal-flat, answer-flat, goal-size, answer-size, goal-count, goal-formulas, answer-formulas, goal-atoms, answer-atoms}
 use Rattle.applying.proofs.Rooms.{fits-not-wide, fits-not-long, fits-both, small-not, small-is}
-use Rattle.picking.specs.Laying.{moved}
 use Rattle.trials.specs.Trying.{laid}
-use Rattle.trying.specs.Carrying.{Placed, Standing, goal-part, answer-part, Both}
+use Rattle.trying.specs.Carrying.{Placed, goal-part, answer-part, Both}
 use Rattle.trying.specs.declared.carrying.Parts.{Parts}
-use Rattle.trials.proofs.Heaps.{row-nodes, row-length, goal-length as goal-words, row-fits, heap-length, own-name, past-name, rename-own, rest-here, rest-whole, answer-here, answer-whole, body-here, body-whole, apart-near, apart-far, general-there}
+use Rattle.trials.proofs.Heaps.{own-name, past-name, rename-own, rest-here, rest-whole, answer-here, answer-whole, body-here, body-whole, apart-near, apart-far, general-there}
 
 module _ (row clause : List ℕ) (w n k d : ℕ) (f : Expr) (g a : Goal) (c : Clause) (p : RowIn row w n (f ∷ g) a) (q : ClauseIn clause k d c) (x : Parts)
     (at-body : x .body ≡ length row + k) (bodies : x .bodies ≡ d) (at-rest : x .rest ≡ length f) (others : x .others ≡ length g) (at-answer : x .answer ≡ w) (answers : x .answers ≡ length a) where
@@ -49,23 +48,6 @@ module _ (row clause : List ℕ) (w n k d : ℕ) (f : Expr) (g a : Goal) (c : Cl
     rest = rest-whole row clause w n k d f g a c p q (x .others) (x .rest) others at-rest;
     answer = subst (Whole heap (x .answers)) (inv at-answer) (answer-whole row clause w n k d f g a c p q (x .answers) answers);
   }
-
-  pub standing : x .row ≡ length row → Numbered ((f ∷ g) ++ a) → Standing heap x
-  standing end numbered = record {
-    rest-end = omega (arith, at-rest, ap length rest-is, goal-words row clause w n k d f g a c p q, length-append f (flat g), at-answer);
-    answer-end = omega (arith, at-answer, ap length answer-is, goal-words row clause w n k d f g a c p q, row-length row clause w n k d f g a c p q, length-append (f ++ flat g) (flat a), end);
-    inside = omega (arith, end, heap-length row clause w n k d f g a c p q);
-    small = omega (arith, end, at-answer, p .answer .size, length-drop w row);
-    goal-fits = subst (Fits 4096) (inv front) (p .goal .fit);
-    fits = subst (Fits 8192) (inv whole) (row-fits row clause w n k d f g a c p q);
-    numbered = subst (λ l. number [] (nodes l) ≡ nodes l) (inv whole) (subst (λ e. number [] e ≡ e) (flat-append (f ∷ g) a ∙ inv (row-nodes row clause w n k d f g a c p q)) (inv (flat-number [] ((f ∷ g) ++ a)) ∙ ap flat numbered));
-  }
-    where
-      whole : take (x .row) heap ≡ row
-      whole = take-at row (map (moved 8192) clause) (x .row) (inv end)
-
-      front : take (x .answer) heap ≡ take w row
-      front = ap (λ i. take i heap) at-answer ∙ inv (take-take w (length row) heap (p .within)) ∙ ap (take w) (take-at row (map (moved 8192) clause) (length row) refl)
 
   module _ (θ : Subst) (m : MostGeneral θ (rows heap 1 0) (rows heap 1 (length row))) where
     general : MostGeneral θ (rename own-name f) (rename past-name (c .head))

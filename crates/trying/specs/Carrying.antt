@@ -1,15 +1,14 @@
 -- The next goal and answer, written off the heap.
-use Prim.Native.Nat.{ℕ, _+_, _-_, _<_, _≤_}
+use Prim.Native.Nat.{ℕ, _+_, _<_, _≤_}
 use mathlib.Core.Path.{_≡_}
 use mathlib.Core.List.{List, [], _++_}
-use lib.ListN.{length, take, drop}
+use lib.ListN.{length, take}
 use Rattle.terms.specs.Node.{Expr}
 use Rattle.terms.specs.Subst.{In, Subst, apply}
 use Rattle.terms.specs.Number.{number, seen-after}
 use Rattle.words.specs.Word.{Fits, nodes}
 use Rattle.heap.specs.Heap.{rows, Whole, Solved}
 use Rattle.heap.specs.Writing.{Writes}
-use Rattle.heap.specs.declared.walking.Walk.{Walk}
 use Rattle.heap.specs.declared.writing.Pen.{Pen}
 use Rattle.trying.specs.declared.carrying.Parts.{Parts}
 use Rattle.trying.specs.declared.carrying.Next.{Next}
@@ -21,34 +20,12 @@ pub record Placed (heap : List ℕ) (p : Parts) : Type 0 where
   pub rest : Whole heap (p .others) (p .rest)
   pub answer : Whole heap (p .answers) (p .answer)
 
--- the answer stands behind the rest, and ends where the row does; and the row is numbered
-pub record Standing (heap : List ℕ) (p : Parts) : Type 0 where
-  pub rest-end : p .rest + length (rows heap (p .others) (p .rest)) ≡ p .answer
-  pub answer-end : p .answer + length (rows heap (p .answers) (p .answer)) ≡ p .row
-  pub inside : p .row ≤ length heap
-  pub small : p .row ≤ p .answer + 4096
-  pub goal-fits : Fits 4096 (take (p .answer) heap)
-  pub fits : Fits 8192 (take (p .row) heap)
-  pub numbered : number [] (nodes (take (p .row) heap)) ≡ nodes (take (p .row) heap)
-
 -- what the next goal is before it is numbered, and the next answer
 abbrev pub goal-part : List ℕ → Parts → Subst → Expr
 goal-part heap p θ = apply θ (rows heap (p .bodies) (p .body)) ++ apply θ (rows heap (p .others) (p .rest))
 
 abbrev pub answer-part : List ℕ → Parts → Subst → Expr
 answer-part heap p θ = apply θ (rows heap (p .answers) (p .answer))
-
--- what a walk without levels visits
-abbrev pub visited : List ℕ → Walk → Subst → Expr
-visited heap w θ = apply θ (rows heap (w .due) (w .at))
-
--- the goal of p is that of `near`, and then the rows of `far`, behind which the answer stands
-pub record Halved (heap : List ℕ) (p near : Parts) (far : Walk) : Type 0 where
-  pub placed : Placed heap near
-  pub alone : far .depth ≡ 0
-  pub whole : Whole heap (far .due) (far .at)
-  pub same : (θ : Subst) → goal-part heap near θ ++ visited heap far θ ≡ goal-part heap p θ
-  pub ends : far .at + length (rows heap (far .due) (far .at)) ≡ p .answer
 
 -- e is written under the heap's solution, or it would pass the limit, or nothing is known
 pub record Put (heap cells names out : List ℕ) (pen : Pen) (e : Subst → Expr) (limit : ℕ) (names′ out′ : List ℕ) (r : Pen) : Type 0 where
@@ -72,11 +49,3 @@ Carried heap p θ out Tired = Unit {0}
 Carried heap p θ out Full = 4096 < length (goal-part heap p θ)
 Carried heap p θ out Over = (length (goal-part heap p θ) ≤ 4096) × (4096 < length (answer-part heap p θ))
 Carried heap p θ out (Done r s) = Both (goal-part heap p θ) (answer-part heap p θ) out r s
-
--- the row from s on stands behind the first `at` words, if the goal has room
-abbrev pub Still : List ℕ → List ℕ → Parts → ℕ → ℕ → List ℕ → Next → Type 0
-Still heap out p s at out′ Tired = ⊥
-Still heap out p s at out′ Full = 4096 < at + (p .answer - s)
-Still heap out p s at out′ Over = ⊥
-Still heap out p s at out′ (Done g n) =
-    (g ≡ at + (p .answer - s)) × (g ≤ 4096) × (n ≡ p .row - p .answer) × (take (g + n) out′ ≡ take at out ++ take (p .row - s) (drop s heap))

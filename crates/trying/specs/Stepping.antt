@@ -1,10 +1,9 @@
 -- The step by the first clause that fits, found on the heap.
-use Prim.Native.Nat.{ℕ, suc, _+_, _-_, _<_, _≤_}
+use Prim.Native.Nat.{ℕ, _+_, _-_, _<_}
 use mathlib.Core.Path.{_≡_}
-use mathlib.Core.List.{List, _∷_, _++_}
+use mathlib.Core.List.{List, _∷_}
 use lib.ListN.{length, getD, take}
 use Rattle.terms.specs.Node.{Expr}
-use Rattle.terms.specs.Number.{Numbered}
 use Rattle.search.specs.Next.{Book, Goal}
 use Rattle.words.specs.Held.{RowIn, BookOn, starts, heads, bodies}
 use Rattle.resolve.specs.Advancing.{Follows, Advanced}
@@ -18,16 +17,14 @@ use Rattle.trying.specs.declared.stepping.Quick.{Quick}
 use Rattle.trying.specs.declared.stepping.Quick.the-variants.{Unsure, Sure}
 
 -- of n clauses, where the body of the one number i stands, put behind the row; and the rest of the goal, and the answer
-abbrev pub parts : List ℕ → Shape → ℕ → ℕ → ℕ → Parts
-parts shelf x n i count = record {
+abbrev pub parts : List ℕ → Shape → ℕ → ℕ → Parts
+parts shelf x n i = record {
   body = x .row + (getD (heads n shelf) i 0 - getD (starts n shelf) i 0);
   bodies = getD (bodies n shelf) i 0;
   rest = x .first;
   others = x .formulas - 1;
   answer = x .goal;
   answers = x .answers;
-  row = x .row;
-  bound = count;
 }
 
 abbrev pub concluded : Next → ℕ → ℕ → Quick
@@ -42,7 +39,6 @@ pub record Shaped (w : List ℕ) (x : Shape) (f : Expr) (g a : Goal) : Type 0 wh
   pub long : length w ≡ x .row
   pub first : x .first ≡ length f
   pub answers : x .answers ≡ length a
-  pub numbered : Numbered ((f ∷ g) ++ a)
 
 -- the trial of the clause number i stands
 pub record Set-up (book shelf words cells tables : List ℕ) (x : Shape) (i count : ℕ) (P : Book) (f : Expr) (g a : Goal) : Type 0 where

@@ -13,13 +13,12 @@ use words::shelf::HEAD;
 use words::shelf::START;
 use words::shelf::entry;
 ghost use mathlib.Core.Path.{_≡_};
-ghost use mathlib.Core.List.{List, _∷_, _++_};
+ghost use mathlib.Core.List.{List, _∷_};
 ghost use Prim.Native.Nat.{ℕ, _+_, _-_, _<_, _≤_};
 ghost use lib.ListN.{length, getD, take};
 ghost use Rattle.terms.specs.Node.{Expr};
-ghost use Rattle.terms.specs.Number.{Numbered};
 ghost use Rattle.search.specs.Next.{Book, Goal};
-ghost use Rattle.words.specs.Held.{RowIn, BookOn, starts, heads, bodies};
+ghost use Rattle.words.specs.Held.{RowIn, BookOn, starts, bodies};
 ghost use Rattle.words.specs.Columns.{CELLS, WORDS};
 ghost use Rattle.numbering.specs.Naming.{spare};
 ghost use Rattle.applying.specs.Applying.{Store};
@@ -28,7 +27,7 @@ ghost use Rattle.matching.specs.TrialLaws.{Free};
 ghost use Rattle.trying.specs.Stepping.{parts, concluded, Shaped, Set-up, Quickly, Quickened};
 
 // Of a row of words, a goal with its answer behind it: how many words it has, how many of them are the goal's and how many the goal's first
-// formula, and how many formulas goal and answer have. The two are numbered by first appearance.
+// formula, and how many formulas goal and answer have.
 pub struct Shape {
     pub row: usize,
     pub goal: usize,
@@ -44,9 +43,9 @@ pub enum Quick {
 }
 
 // Where the body of the clause number i stands, put behind the row; and the rest.
-fn parts_of(shelf: &[u16], x: Shape, i: usize, bound: usize) -> Parts
+fn parts_of(shelf: &[u16], x: Shape, i: usize) -> Parts
     requires { ⌜ ((book : List ℕ) × (P : Book) × BookOn book (now shelf) P × (i < length P)) × (x .row ≤ 8192) × (0 < x .formulas) ⌝ }
-    ensures { λ r. ⌜ ((n : ℕ) → i < n → r ≡ parts (now (shelf .entry)) x n i bound) ⌝ }
+    ensures { λ r. ⌜ ((n : ℕ) → i < n → r ≡ parts (now (shelf .entry)) x n i) ⌝ }
 {
     let s = entry(shelf, START, i);
     let e = entry(shelf, HEAD, i);
@@ -57,8 +56,6 @@ fn parts_of(shelf: &[u16], x: Shape, i: usize, bound: usize) -> Parts
         others: x.formulas - 1,
         answer: x.goal,
         answers: x.answers,
-        row: x.row,
-        bound,
     }
 }
 
@@ -84,23 +81,22 @@ fn concluded(next: Next, i: usize, formulas: usize) -> Quick
     }
 }
 
-// What the clause number i, whose trial the heap holds, says to the row; the trial has bound so many of its variables.
+// What the clause number i, whose trial the heap holds, says to the row.
 fn carry(
     shelf: &[u16],
     words: &[u32],
     x: Shape,
     i: usize,
-    count: usize,
     cells: &[u16],
     rows: &mut [u16],
     out: &mut [u32],
 ) -> Quick
     requires { ⌜ (length (now words) ≡ WORDS) × (length (now cells) ≡ 8256) × (length (now rows) ≡ CELLS) × (length (now out) ≡ 8192) ⌝ }
-    requires { ⌜ ((book : List ℕ) × (P : Book) × (f : Expr) × (g : Goal) × (a : Goal) × Set-up book (now shelf) (now words) (now cells) (now rows) x i count P f g a) ⌝ }
-    ensures quickly { λ r. ⌜ ((book : List ℕ) (P : Book) (f : Expr) (g a : Goal) → Set-up book (now (shelf .entry)) (now (words .entry)) (now (cells .entry)) (now (rows .entry)) x i count P f g a → Quickly P i f g a (now (out .exit)) r) ⌝ }
+    requires { ⌜ ((book : List ℕ) × (count : ℕ) × (P : Book) × (f : Expr) × (g : Goal) × (a : Goal) × Set-up book (now shelf) (now words) (now cells) (now rows) x i count P f g a) ⌝ }
+    ensures quickly { λ r. ⌜ ((book : List ℕ) (count : ℕ) (P : Book) (f : Expr) (g a : Goal) → Set-up book (now (shelf .entry)) (now (words .entry)) (now (cells .entry)) (now (rows .entry)) x i count P f g a → Quickly P i f g a (now (out .exit)) r) ⌝ }
     ensures spare { λ _. ⌜ spare (now (rows .exit)) ≡ spare (now (rows .entry)) ⌝ }
 {
-    let p = parts_of(shelf, x, i, count);
+    let p = parts_of(shelf, x, i);
     let formulas = p.bodies + p.others;
     if 512 < formulas {
         return Quick::Sure(Move::Full);
@@ -127,7 +123,7 @@ fn on_heap(
 {
     match first_fit(book, shelf, words, x.row, x.first, cells, rows) {
         Found::Clause(i, count) => {
-            let r = carry(shelf, words, x, i, count, cells, rows, out);
+            let r = carry(shelf, words, x, i, cells, rows, out);
             release(cells, rows, count);
             r
         }
@@ -144,7 +140,7 @@ pub struct Sides {
 }
 
 fn shape_of(row: &[u32], sides: Sides) -> Shape
-    ensures { λ r. ⌜ ((f : Expr) (g a : Goal) → RowIn (now (row .entry)) (sides .words) (sides .formulas) (f ∷ g) a → sides .answers ≡ length a → sides .first ≡ length f → Numbered ((f ∷ g) ++ a) → Shaped (now (row .entry)) r f g a) × (r .row ≡ length (now (row .entry))) ⌝ }
+    ensures { λ r. ⌜ ((f : Expr) (g a : Goal) → RowIn (now (row .entry)) (sides .words) (sides .formulas) (f ∷ g) a → sides .answers ≡ length a → sides .first ≡ length f → Shaped (now (row .entry)) r f g a) × (r .row ≡ length (now (row .entry))) ⌝ }
 {
     Shape {
         row: row.len(),
@@ -167,8 +163,8 @@ pub fn advance(
     cells: &mut [u16],
 ) -> Move
     requires { ⌜ Store (now words) (now rows) (now out) × (length (now cells) ≡ 8256) × Free (now cells) ⌝ }
-    requires { ⌜ ((P : Book) × BookOn (now book) (now shelf) P) × ((f : Expr) × (g : Goal) × (a : Goal) × RowIn (now row) (sides .words) (sides .formulas) (f ∷ g) a × (sides .answers ≡ length a) × (sides .first ≡ length f) × Numbered ((f ∷ g) ++ a)) ⌝ }
-    ensures advanced { λ r. ⌜ ((P : Book) (f : Expr) (g a : Goal) → BookOn (now (book .entry)) (now (shelf .entry)) P → RowIn (now (row .entry)) (sides .words) (sides .formulas) (f ∷ g) a → sides .answers ≡ length a → sides .first ≡ length f → Numbered ((f ∷ g) ++ a) → Advanced P (f ∷ g) a (now (out .exit)) r) ⌝ }
+    requires { ⌜ ((P : Book) × BookOn (now book) (now shelf) P) × ((f : Expr) × (g : Goal) × (a : Goal) × RowIn (now row) (sides .words) (sides .formulas) (f ∷ g) a × (sides .answers ≡ length a) × (sides .first ≡ length f)) ⌝ }
+    ensures advanced { λ r. ⌜ ((P : Book) (f : Expr) (g a : Goal) → BookOn (now (book .entry)) (now (shelf .entry)) P → RowIn (now (row .entry)) (sides .words) (sides .formulas) (f ∷ g) a → sides .answers ≡ length a → sides .first ≡ length f → Advanced P (f ∷ g) a (now (out .exit)) r) ⌝ }
     ensures free { λ _. ⌜ Free (now (cells .exit)) ⌝ }
 {
     let x = shape_of(row, sides);

@@ -1,2 +1,0 @@
--- For the loops (Scans).
-pub mod Scans
