@@ -9,7 +9,7 @@ use resolve::Choice;
 use resolve::choose;
 ghost use mathlib.Core.Path.{_≡_};
 ghost use mathlib.Core.List.{_∷_};
-ghost use Prim.Native.Nat.{ℕ, _≤_};
+ghost use Prim.Native.Nat.{ℕ, _+_, _*_, _≤_};
 ghost use lib.ListN.{length};
 ghost use Rattle.terms.specs.Node.{Expr};
 ghost use Rattle.search.specs.Next.{Book, Goal};
@@ -114,15 +114,45 @@ fn from_bytes(
     from_goal(words, &shelf[..used], &goal[..n], opened.formulas)
 }
 
-// The same with storage of its own.
-fn from_good(book: &[u8], query: &[u8]) -> Picked
+// The same with words lent that are enough for the book, and the rest of its storage its own.
+fn with_words(book: &[u8], query: &[u8], words: &mut [u32]) -> Picked
+    requires { ⌜ Good (now book) (now query) 16387 ⌝ }
+    requires { ⌜ length (now book) ≤ 3 * length (now words) + 2 ⌝ }
+    ensures { λ r. ⌜ r ≡ pickSaid (bookOf (now (book .entry))) (goalOf (now (query .entry))) (Pick.pick (bookOf (now (book .entry))) (goalOf (now (query .entry)))) ⌝ }
+{
+    let mut shelf = [0u16; 2308];
+    let mut goal = [0u32; 4096];
+    from_bytes(book, query, words, &mut shelf, &mut goal)
+}
+
+// For a book of up to 9,216 bytes, with a quarter of the words that any may need: clearing them takes time.
+fn from_short(book: &[u8], query: &[u8]) -> Picked
+    requires { ⌜ Good (now book) (now query) 16387 ⌝ }
+    requires { ⌜ length (now book) ≤ 9216 ⌝ }
+    ensures { λ r. ⌜ r ≡ pickSaid (bookOf (now (book .entry))) (goalOf (now (query .entry))) (Pick.pick (bookOf (now (book .entry))) (goalOf (now (query .entry)))) ⌝ }
+{
+    let mut words = [0u32; 3072];
+    with_words(book, query, &mut words)
+}
+
+// For any book.
+fn from_long(book: &[u8], query: &[u8]) -> Picked
     requires { ⌜ Good (now book) (now query) 16387 ⌝ }
     ensures { λ r. ⌜ r ≡ pickSaid (bookOf (now (book .entry))) (goalOf (now (query .entry))) (Pick.pick (bookOf (now (book .entry))) (goalOf (now (query .entry)))) ⌝ }
 {
     let mut words = [0u32; 10922];
-    let mut shelf = [0u16; 2308];
-    let mut goal = [0u32; 4096];
-    from_bytes(book, query, &mut words, &mut shelf, &mut goal)
+    with_words(book, query, &mut words)
+}
+
+// The same with storage of its own. The words are another function's, so that those for long books take no room beside those for short ones.
+fn from_good(book: &[u8], query: &[u8]) -> Picked
+    requires { ⌜ Good (now book) (now query) 16387 ⌝ }
+    ensures { λ r. ⌜ r ≡ pickSaid (bookOf (now (book .entry))) (goalOf (now (query .entry))) (Pick.pick (bookOf (now (book .entry))) (goalOf (now (query .entry)))) ⌝ }
+{
+    if book.len() <= 9216 {
+        return from_short(book, query);
+    }
+    from_long(book, query)
 }
 
 // "One call picks the clause." It lends no area, so that none can be too short.

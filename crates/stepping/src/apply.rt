@@ -10,7 +10,7 @@ use resolve::Move;
 use resolve::apply_number;
 use words::shelf::clauses;
 ghost use mathlib.Core.Path.{_≡_};
-ghost use Prim.Native.Nat.{_≤_, _<_};
+ghost use Prim.Native.Nat.{_+_, _*_, _≤_, _<_};
 ghost use mathlib.Core.List.{_∷_};
 ghost use lib.ListN.{length};
 ghost use Rattle.terms.specs.Node.{Expr};
@@ -169,15 +169,45 @@ fn from_bytes(
     )
 }
 
-// The same with storage of its own.
-fn from_good(book: &[u8], query: &[u8], clause: u32, area: &mut [u8]) -> Stepped
+// The same with words lent that are enough for the book, and the rest of its storage its own.
+fn with_words(book: &[u8], query: &[u8], clause: u32, area: &mut [u8], words: &mut [u32]) -> Stepped
+    requires { ⌜ Good (now book) (now query) (length (now area)) ⌝ }
+    requires { ⌜ length (now book) ≤ 3 * length (now words) + 2 ⌝ }
+    ensures { λ r. ⌜ Gives (apply-by (bookOf (now (book .entry))) (goalOf (now (query .entry))) clause) (now (area .entry)) r (now (area .exit)) ⌝ }
+{
+    let mut shelf = [0u16; 2308];
+    let mut goal = [0u32; 4096];
+    from_bytes(book, query, clause, area, words, &mut shelf, &mut goal)
+}
+
+// For a book of up to 9,216 bytes, with a quarter of the words that any may need: clearing them takes time.
+fn from_short(book: &[u8], query: &[u8], clause: u32, area: &mut [u8]) -> Stepped
+    requires { ⌜ Good (now book) (now query) (length (now area)) ⌝ }
+    requires { ⌜ length (now book) ≤ 9216 ⌝ }
+    ensures { λ r. ⌜ Gives (apply-by (bookOf (now (book .entry))) (goalOf (now (query .entry))) clause) (now (area .entry)) r (now (area .exit)) ⌝ }
+{
+    let mut words = [0u32; 3072];
+    with_words(book, query, clause, area, &mut words)
+}
+
+// For any book.
+fn from_long(book: &[u8], query: &[u8], clause: u32, area: &mut [u8]) -> Stepped
     requires { ⌜ Good (now book) (now query) (length (now area)) ⌝ }
     ensures { λ r. ⌜ Gives (apply-by (bookOf (now (book .entry))) (goalOf (now (query .entry))) clause) (now (area .entry)) r (now (area .exit)) ⌝ }
 {
     let mut words = [0u32; 10922];
-    let mut shelf = [0u16; 2308];
-    let mut goal = [0u32; 4096];
-    from_bytes(book, query, clause, area, &mut words, &mut shelf, &mut goal)
+    with_words(book, query, clause, area, &mut words)
+}
+
+// The same with storage of its own. The words are another function's, so that those for long books take no room beside those for short ones.
+fn from_good(book: &[u8], query: &[u8], clause: u32, area: &mut [u8]) -> Stepped
+    requires { ⌜ Good (now book) (now query) (length (now area)) ⌝ }
+    ensures { λ r. ⌜ Gives (apply-by (bookOf (now (book .entry))) (goalOf (now (query .entry))) clause) (now (area .entry)) r (now (area .exit)) ⌝ }
+{
+    if book.len() <= 9216 {
+        return from_short(book, query, clause, area);
+    }
+    from_long(book, query, clause, area)
 }
 
 // "A second applies a clause by its number", which is any number of 32 bits.
