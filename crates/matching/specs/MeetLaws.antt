@@ -87,7 +87,7 @@ module _ {heap cells : List ℕ} (made : Made heap cells) {p q a b : ℕ} (left 
     just = λ τ t. let v = stands-var heap a (left .row .inside) τ k in (λ e. inv v ∙ followed τ t .0 e, λ e. followed τ t .1 (v ∙ e));
   }
 
-  bind-right : kindOf y ≡ 1 → Bindable heap cells p q (y % 65536) a
+  pub bind-right : kindOf y ≡ 1 → Bindable heap cells p q (y % 65536) a
   bind-right k = record {
     free = right .stops k;
     inside = fit-b .below k;

@@ -36,7 +36,7 @@ sym-var : {c : Symbol} {v : ℕ} → sym c ≡ var v → ⊥
 sym-var e = let z : _≡_ {A = ℕ} 0 1 = cc in absurd (omega (arith, z))
 
 module _ {heap cells : List ℕ} {p q : ℕ} (made : Made heap cells) {v r : ℕ} (b : Bindable heap cells p q v r) where
-  more-bound : (kindOf (getD heap r 0) ≡ 1 → getD heap r 0 % 65536 < v) → ((θ : Subst) → Solved heap cells θ → ¬ In v (apply θ (rows heap 1 r))) → More heap cells p q (set cells v (suc r))
+  pub more-bound : (kindOf (getD heap r 0) ≡ 1 → getD heap r 0 % 65536 < v) → ((θ : Subst) → Solved heap cells θ → ¬ In v (apply θ (rows heap 1 r))) → More heap cells p q (set cells v (suc r))
   more-bound low away = record {
     made = bind-made heap cells v r (b .free) (b .inside) made (b .whole) low;
     long = length-set cells v (suc r);
@@ -51,11 +51,14 @@ module _ {heap cells : List ℕ} {p q : ℕ} (made : Made heap cells) {v r : ℕ
     );
   }
 
+-- nothing is to be done
+pub more-same : {heap cells : List ℕ} {p q : ℕ} → Made heap cells → Met heap cells p q Same → More heap cells p q cells
+more-same made met = record { made = made; long = refl; grows = λ v e. e; solved = λ θ s. (θ, s); just = λ τ. (λ x. x .0, λ y. (y, met τ y)) }
+
 module _ (heap cells trail : List ℕ) (t : Trial) (p q : ℕ) (made : Made heap cells) where
-  -- nothing is to be done
   pub step-same : Met heap cells p q Same → Stepped heap cells trail t p q cells trail (Step.Done (t .count) (t .fuel))
   step-same met = (
-    record { made = made; long = refl; grows = λ v e. e; solved = λ θ s. (θ, s); just = λ τ. (λ x. x .0, λ y. (y, met τ y)) },
+    more-same made met,
     record { trailed = λ before b. b; slow = omega arith; long = refl },
     omega arith,
   )

@@ -36,6 +36,23 @@ pub record Unifying (heap cells trail : List ℕ) (t : Trial) (p q : ℕ) (cells
   pub spent : count + fuel ≤ t .count + t .fuel
   pub less : fuel ≤ t .fuel
 
+-- as long as the goal's variables are bound as at the start, they stand for rows before the clause
+pub unmixed-while : {heap cells cells′ : List ℕ} {t : Trial} → Begun heap cells t → Made heap cells′ → ((y : ℕ) → y < t .base → bound cells′ y ≡ bound cells y) → Unmixed heap cells′ t
+unmixed-while {heap} {cells} {cells′} {t} b made as-before none v r high before whole θ s i =
+    let (w, j, k) = in-apply v θ (rows heap 1 r) i in
+    omega (arith, high, stays w (b .low r before whole w j) v k)
+  where
+    alone : (y v : ℕ) → In v (itself y) → v ≡ y
+    alone y v (inl e) = e
+    alone y v (inr e) = absurd e
+
+    stays : (y : ℕ) → y < t .base → (v : ℕ) → In v (θ y) → v < t .base
+    stays = solved-induction made s (λ y. y < t .base → (v : ℕ) → In v (θ y) → v < t .base)
+        (λ y z l v k. omega (arith, l, alone y v (subst (In v) (s .free y z) k)))
+        (λ y p e all l v k.
+        let (w, j, m) = in-apply v θ (rows heap 1 p) (subst (In v) (s .solves .stands y p e) k) in
+        all w j (b .low p (b .inner y p l (inv (as-before y l) ∙ e)) (made .whole y p e) w j) v m)
+
 -- the trial t, further on
 abbrev now : Trial → ℕ → ℕ → Trial
 now t count fuel = record { base = t .base; start = t .start; count = count; fuel = fuel }
@@ -65,28 +82,15 @@ module _ {heap cells trail : List ℕ} {t : Trial} {p q : ℕ} where
     pub first-pair : 0 < x .due → Whole heap 1 (x .p) × Whole heap 1 (x .q)
     first-pair l = (first-row-whole heap (x .due) (x .p) l (u .due .left), first-row-whole heap (x .due) (x .q) l (u .due .right))
 
-    -- as long as no goal variable is on the trail, the goal's variables stand for rows before the clause
+    -- as long as no goal variable is on the trail
     pub still-unmixed : Begun heap cells t → (left : ℕ) → Unmixed heap cells′ (now t count left)
-    still-unmixed b left none v r high before whole θ s i =
-        let (w, j, k) = in-apply v θ (rows heap 1 r) i in
-        omega (arith, high, stays w (b .low r before whole w j) v k)
+    still-unmixed b left none = unmixed-while b (u .made) as-before (b .none)
       where
         as-before : (y : ℕ) → y < t .base → bound cells′ y ≡ bound cells y
         as-before y l = elim (u .trailed cells (subst (Trailed cells cells trail (t .base)) (inv (b .none)) (trail-none cells trail (t .base))) .kept y l) [
           | inl e ↦ e
           | inr (z, (j, a, under, e)) ↦ absurd (omega (arith, under, none))
         ]
-
-        alone : (y v : ℕ) → In v (itself y) → v ≡ y
-        alone y v (inl e) = e
-        alone y v (inr e) = absurd e
-
-        stays : (y : ℕ) → y < t .base → (v : ℕ) → In v (θ y) → v < t .base
-        stays = solved-induction (u .made) s (λ y. y < t .base → (v : ℕ) → In v (θ y) → v < t .base)
-            (λ y z l v k. omega (arith, l, alone y v (subst (In v) (s .free y z) k)))
-            (λ y p e all l v k.
-            let (w, j, m) = in-apply v θ (rows heap 1 p) (subst (In v) (s .solves .stands y p e) k) in
-            all w j (b .low p (b .inner y p l (inv (as-before y l) ∙ e)) (u .made .whole y p e) w j) v m)
 
     pub pair-few : x .due ≤ length heap
     pair-few = rows-few heap (x .due) (x .p) (u .due .left)
