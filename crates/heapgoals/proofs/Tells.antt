@@ -2,6 +2,9 @@
 use Prim.Native.Nat.{ℕ, suc, _+_, _<_, _≤_}
 use native.Mathlib.Omega.{arith}
 use mathlib.Core.Path.{_≡_, refl, sym as inv, ap, _∙_, subst}
+use mathlib.Core.Bool.{not, true, true≢false}
+use borrow.Author.Tests.{eq-eqb}
+use lib.Dec.{eqb}
 use mathlib.Core.List.{List, [], _∷_, _++_, append-nil, append-assoc, head-eq-of-cons-eq}
 use lib.ListN.{length, getD, take, drop, length-append, length-map}
 use lib.Seq.{take-at, drop-at, drop-cons, getD-take, length-take-le}
@@ -11,11 +14,11 @@ use Rattle.terms.specs.Subst.{Subst, apply}
 use Rattle.terms.specs.SubstLaws.{apply-row}
 use Rattle.terms.specs.Number.{number, seen-after}
 use Rattle.terms.specs.NumberLaws.{number-append, number-length}
-use Rattle.words.specs.Word.{kindOf, Plain, Valid, Valids, node, nodes}
+use Rattle.words.specs.Word.{kindOf, arityOf, Plain, Valid, Valids, node, nodes}
 use Rattle.words.specs.WordLaws.{node-var, node-sym, nodes-drop}
 use Rattle.words.specs.PackLaws.{node-inj}
 use Rattle.heap.specs.Heap.{rows, Whole, Solved}
-use Rattle.heap.specs.HeapLaws.{rows-none}
+use Rattle.heap.specs.HeapLaws.{rows-none, stands-sym}
 use Rattle.heap.specs.PartLaws.{ahead-alone}
 use Rattle.heap.specs.Walking.{behind, ahead, Visited}
 use Rattle.heap.specs.declared.walking.Walk.{Walk}
@@ -98,3 +101,19 @@ module _ {heap cells : List ℕ} {at kept : ℕ} where
 
 pub saved-valid : (saved : List ℕ) (kept i : ℕ) → Valids (take kept saved) → kept ≤ length saved → i < kept → {v : ℕ} → v ≡ getD saved i 0 → Valid v
 saved-valid saved kept i all k l e = subst Valid (getD-take kept saved i 0 l ∙ inv e) (all i (omega (arith, l, length-take-le kept saved k)))
+
+-- a row that begins with another symbol
+pub first-other : (heap cells saved : List ℕ) (at kept : ℕ) {u v : ℕ} → Valids heap → at < length heap → Valids (take kept saved) → kept ≤ length saved → 0 < kept → u ≡ getD heap at 0 → v ≡ getD saved 0 0 → 33554432 ≤ u → (u ≡ v → ⊥) → Other heap cells at saved kept
+first-other heap cells saved at kept {u} {v} valids l all k some eu ev high n θ s same =
+    let one = number [] (node u ∷ []) in
+    let e = apply θ (rows heap (arityOf u) (suc at)) in
+    let row : apply θ (rows heap 1 at) ≡ node u ∷ e
+    = stands-sym heap at l θ (valids at l) (λ z. omega (arith, z, eu, high)) (ap arityOf eu) ∙ ap (λ w. node w ∷ e) (inv eu) in
+    let rest = number (seen-after [] (node u ∷ [])) e in
+    let whole : nodes (take kept saved) ≡ one ++ rest = inv same ∙ ap (number []) row ∙ number-append [] (node u ∷ []) e in
+    let there : nodes (take kept saved) ≡ node v ∷ nodes (drop 1 (take kept saved))
+    = ap nodes (drop-cons (take kept saved) 0 0 (omega (arith, some, length-take-le kept saved k))) ∙ ap (λ y. node y ∷ nodes (drop 1 (take kept saved))) (getD-take kept saved 0 0 some ∙ inv ev) in
+    parted-sym u v (subst Valid (inv eu) (valids at l)) (saved-valid saved kept 0 all k some ev) high n [] (inv (take-at one rest 1 (number-length [] (node u ∷ []))) ∙ ap (take 1) (inv whole ∙ there))
+
+pub differ : (x y : ℕ) → not (eqb x y) ≡ true → x ≡ y → ⊥
+differ x y e z = absurd (true≢false (inv e ∙ ap not (eq-eqb x y z)))

@@ -6,7 +6,8 @@ use heap::walking::next;
 use words::word;
 ghost use mathlib.Core.Path.{_≡_};
 ghost use mathlib.Core.Bool.{true};
-ghost use Prim.Native.Nat.{_≤_};
+ghost use mathlib.Core.List.{List};
+ghost use Prim.Native.Nat.{ℕ, _≤_};
 ghost use lib.ListN.{length, take};
 ghost use Rattle.words.specs.Word.{Valid, Valids};
 ghost use Rattle.heap.specs.Heap.{Made, Whole};
@@ -23,8 +24,23 @@ fn parted(u: u32, v: u32) -> bool
     u != v
 }
 
-// The saved formula is the first `kept` words of `saved`, numbered by first appearance. Where they differ in variables alone, nothing is known.
-pub fn differs(
+// Whether a row begins with another symbol than what is saved: so most are told apart, without a walk.
+fn begins_otherwise(heap: &[u32], at: usize, saved: &[u32], kept: usize) -> bool
+    requires { ⌜ Valids (now heap) × Whole (now heap) 1 at × Valids (take kept (now saved)) × (kept ≤ length (now saved)) ⌝ }
+    ensures { λ r. ⌜ (r ≡ true → (cells : List ℕ) → Other (now (heap .entry)) cells at (now (saved .entry)) kept) ⌝ }
+{
+    if kept == 0 {
+        return false;
+    }
+    let u = word(heap, at);
+    if u < SYMBOL {
+        return false;
+    }
+    u != word(saved, 0)
+}
+
+// Node by node.
+fn differs_within(
     heap: &[u32],
     cells: &[u16],
     levels: &mut [u16],
@@ -57,4 +73,23 @@ pub fn differs(
         w = seen.walk;
     }
     i < kept
+}
+
+// The saved formula is the first `kept` words of `saved`, numbered by first appearance. Where they differ in variables alone, nothing is known.
+pub fn differs(
+    heap: &[u32],
+    cells: &[u16],
+    levels: &mut [u16],
+    at: usize,
+    saved: &[u32],
+    kept: usize,
+) -> bool
+    requires { ⌜ Made (now heap) (now cells) × Whole (now heap) 1 at × (514 ≤ length (now levels)) ⌝ }
+    requires { ⌜ Valids (take kept (now saved)) × (kept ≤ length (now saved)) ⌝ }
+    ensures { λ r. ⌜ (r ≡ true → Other (now (heap .entry)) (now (cells .entry)) at (now (saved .entry)) kept) ⌝ }
+{
+    if begins_otherwise(heap, at, saved, kept) {
+        return true;
+    }
+    differs_within(heap, cells, levels, at, saved, kept)
 }

@@ -133,7 +133,14 @@ pub enum Matched {
 const PAIRS: usize = 256;
 
 // The formula's row at p and the head's at q.
-pub fn match_head(heap: &[u32], cells: &mut [u16], stack: &mut [u16], t: Trial, p: usize, q: usize) -> Matched
+pub fn match_head(
+    heap: &[u32],
+    cells: &mut [u16],
+    stack: &mut [u16],
+    t: Trial,
+    p: usize,
+    q: usize,
+) -> Matched
     requires { ⌜ Made (now heap) (now cells) × ((θ : Subst) × Solved (now heap) (now cells) θ) × Whole (now heap) 1 p × Whole (now heap) 1 q × Begun (now heap) (now cells) t × (387 ≤ length (now stack)) ⌝ }
     ensures { λ r. ⌜ Head-met (now (heap .entry)) (t .base) (now (cells .entry)) p q (now (cells .exit)) (now (stack .exit)) r ⌝ }
 {

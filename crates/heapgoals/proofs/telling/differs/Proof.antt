@@ -1,39 +1,32 @@
-use mathlib.Core.Bool.{true≢false}
-use borrow.Author.Tests.{ltb-true}
-use Prim.Native.Nat.{_-_}
-use native.Mathlib.Omega.{arith}
-use mathlib.Core.Path.{_≡_, refl, sym as inv, _∙_}
-use lib.ListN.{length}
-use Rattle.heapgoals.specs.Telling.{Midway}
-use Rattle.heapgoals.proofs.Tells.{mid-start, mid-longer, mid-shorter, mid-other, mid-on, saved-valid}
 use borrow.Author.Needs.{needs}
 use Rattle.heapgoals.proofs.telling.differs.Statement.{statement}
 use Rattle.heapgoals.proofs.telling.differs.Tie as tie
+use Rattle.heapgoals.proofs.telling.differs.Reads as reads
+use Rattle.heapgoals.proofs.telling.differs.Lts as lts
+use Rattle.heapgoals.proofs.telling.begins_otherwise.Reads as begins-otherwise-reads
+use Rattle.heapgoals.proofs.telling.differs_within.Reads as differs-within-reads
 
-abbrev Inv-loop : tie.InvT-loop
-Inv-loop heap cells levels₀ at saved kept i₀ w₀ levels i w = Midway heap cells levels at kept i w × (length levels ≡ length levels₀)
+-- src/telling.rt:91:8
+begins-otherwise-requires : tie.Need-begins-otherwise-requires
+begins-otherwise-requires c κs = let k = c .before .before .before .before .pre in ((λ y l. k .0 .0 .fits y l .valid), k .0 .1, k .1 .0, k .1 .1)
 
-abbrev μ-loop : tie.MeasureT-loop
-μ-loop heap cells levels₀ at saved kept i₀ w₀ levels i w = kept - i
+-- src/telling.rt:92:9
+returns : tie.Need-returns
+returns c = λ e. c .before .begins-otherwise .ensures (c .if1 .taken) _
+
+-- src/telling.rt:94:5
+differs-within-requires : tie.Need-differs-within-requires
+differs-within-requires c κs = let k = c .before .before .before .before .before .before .before .pre in k
+
+-- src/telling.rt:79:1
+same-length : tie.Need-same-length
+same-length c = search needs
+
+-- src/telling.rt:79:1
+returns-2 : tie.Need-returns-2
+returns-2 c = c .before .before .differs-within .ensures
 
 pub differs-spec : {M : Type 1} → statement M
 differs-spec =
     tie.close
-    (tie.spec
-    Inv-loop
-    μ-loop
-    (λ c. (mid-start (c .before .before .before .before .pre .0 .1) (c .before .before .before .before .pre .0 .2), refl))
-    (λ c. search needs)
-    (λ c. λ e. mid-longer (c .before .before .before .loop .inv .0) (c .before .before .before .before .before .before .before .before .args .saved .now) (c .before .before .before .before .before .before .before .before .pre .1 .1) (c .before .if1 .taken) (c .if2 .taken))
-    (λ c. search needs)
-    (λ c. λ e. absurd (true≢false (inv e)))
-    (λ c κs. search needs)
-    (λ c κs. search needs)
-    (λ c κs. (c .before .before .before .next .ensures .fit .valid, saved-valid (c .before .before .before .before .before .before .before .before .before .before .before .before .before .before .before .args .saved .now) (c .before .before .before .before .before .before .before .before .before .before .before .before .before .before .before .args .kept) (c .before .before .before .before .before .before .before .before .before .before .loop .i) (c .before .before .before .before .before .before .before .before .before .before .before .before .before .before .before .pre .1 .0) (c .before .before .before .before .before .before .before .before .before .before .before .before .before .before .before .pre .1 .1) (omega (arith, c .before .before .before .before .before .before .before .before .before .before .loop .inv .0 .high, c .before .before .before .before .before .before .before .if2 .left)) (c .word .ensures)))
-    (λ c. search needs)
-    (λ c. λ e. mid-other (c .before .before .before .before .before .before .before .before .before .before .before .before .loop .inv .0) (c .before .before .before .before .before .next .ensures) (c .before .before .before .before .before .before .before .before .before .before .before .before .before .before .before .before .before .args .saved .now) (c .before .before .before .before .before .before .before .before .before .before .before .before .before .before .before .before .before .pre .1 .1) (omega (arith, c .before .before .before .before .before .before .before .before .before .before .before .before .loop .inv .0 .high, c .before .before .before .before .before .before .before .before .before .if2 .left)) (c .before .before .word .ensures) (c .before .parted .ensures (c .if4 .taken)))
-    (λ c. search needs)
-    (λ c. search needs)
-    (λ c. (mid-on (c .before .before .before .before .before .before .before .before .before .before .before .before .before .loop .inv .0) (c .before .before .before .before .before .before .next .ensures) (omega (arith, c .before .before .before .before .before .before .before .before .before .before .before .before .before .loop .inv .0 .high, c .before .before .before .before .before .before .before .before .before .before .if2 .left)) (omega arith), c .before .before .before .before .before .before .next .ensures .long ∙ c .before .before .before .before .before .before .before .before .before .before .before .before .before .loop .inv .1))
-    (λ c. search needs)
-    (λ c. λ e. mid-shorter (c .before .before .loop .inv .0) (c .before .before .before .before .before .before .before .args .saved .now) (c .before .before .before .before .before .before .before .pre .1 .1) (omega (arith, c .if1 .left)) (ltb-true _ _ e)))
+    (tie.spec begins-otherwise-requires returns differs-within-requires same-length returns-2)
