@@ -3,12 +3,10 @@ use Prim.Native.Nat.{ℕ, _+_, _-_, _<_, _≤_}
 use native.Mathlib.Omega.{arith}
 use mathlib.Core.Path.{_≡_, sym as inv, ap, ap₂, _∙_, subst}
 use mathlib.Core.Logic.{inl, inr}
-use mathlib.Core.List.{List, [], _∷_, _++_, map, map-append, append-nil, head-eq-of-cons-eq}
-use lib.ListN.{length, getD, take, drop, length-append, length-map}
-use lib.Seq.{length-take-le, take-at, take-take, getD-take}
+use mathlib.Core.List.{List, [], _∷_, _++_, map, map-append, head-eq-of-cons-eq}
+use lib.ListN.{length, take, drop, length-append, length-map}
+use lib.Seq.{length-take-le, take-at, take-take}
 use Rattle.terms.specs.Node.{Expr}
-use Rattle.terms.specs.Row.{Row}
-use Rattle.terms.specs.RowLaws.{row-long}
 use Rattle.terms.specs.Subst.{In, In-any, Subst, apply, after, itself, Unifies, MostGeneral}
 use Rattle.terms.specs.SubstLaws.{apply-on, apply-after, apply-itself, apply-row, in-apply}
 use Rattle.terms.specs.Rename.{rename, Apart}
@@ -16,14 +14,13 @@ use Rattle.terms.specs.RenameLaws.{rename-row, rename-apply}
 use Rattle.terms.specs.Argument.{firsts}
 use Rattle.search.specs.Next.{Clause, Goal, Meets}
 use Rattle.search.specs.NextLaws.{carried}
-use Rattle.words.specs.Word.{kindOf, Plain, Valids, Fit, Fits, node, nodes}
-use Rattle.words.specs.HeldLaws.{headed, head-length, head-in, first-kind}
+use Rattle.words.specs.Word.{Fit, Fits, node, nodes}
 use Rattle.words.specs.WordLaws.{each-append, fits-more, in-fits}
 use Rattle.words.specs.Flat.{flat, rename-append}
 use Rattle.words.specs.Held.{ClauseIn}
 use Rattle.picking.specs.Laying.{moved, Appended}
 use Rattle.picking.proofs.Appends.{nodes-moved, fits-moved}
-use Rattle.heap.specs.Heap.{rows, Whole, bound, Made, Solves, Solved}
+use Rattle.heap.specs.Heap.{rows, Made, Solves, Solved}
 use Rattle.heap.specs.HeapLaws.{row-inside}
 use Rattle.matching.specs.Meeting.{Equal}
 use Rattle.matching.specs.Unifying.{More}
@@ -31,13 +28,12 @@ use Rattle.trials.proofs.Heaps.{in-rows, piece, piece-whole}
 use Rattle.paths.specs.Binding.{newly, newly-general, newly-meant}
 use Rattle.paths.specs.Naming.{α, stood, near}
 use Rattle.heapgoals.specs.Holding.{used, Holds}
-use Rattle.heapgoals.specs.HoldLaws.{held-row, held-first, first-meant, rest-meant, answer-meant, held-all, held-low}
+use Rattle.heapgoals.specs.HoldLaws.{held-row, first-meant, rest-meant, answer-meant, held-all, held-low}
 use Rattle.heapgoals.specs.declared.Standing.{Standing}
-use Rattle.attempts.specs.Trying.{laid, Set-up, Attempted, Told, Tested}
+use Rattle.attempts.specs.Trying.{laid, Set-up, Attempted, Tested}
 use Rattle.attempts.specs.declared.Attempt.{Attempt}
 use Rattle.attempts.specs.declared.Attempt.the-variants.{Fits as Fits-now, Clash, Tired}
 use Rattle.attempts.proofs.Extending.{part-front, same-rows, still-whole, still-made, still-solved}
-use Rattle.attempts.proofs.Telling.{told-none}
 
 -- variables from `base` on
 in-past : (base : ℕ) (e : Expr) (v : ℕ) → In v (rename (λ x. x + base) e) → base ≤ v
@@ -185,38 +181,3 @@ module _ {words cells levels : List ℕ} {s : Standing} {f : Expr} {g a : Goal} 
 
     pub lent-tested : (cells′ tables : List ℕ) (v : Attempt) → Attempted (take (r - 0) (drop 0 z)) cells s cells′ tables v → Tested f c heap clause z cells s cells′ tables v
     lent-tested cells′ tables v y = tested z cells′ tables v end-front (subst (λ l. Attempted l cells s cells′ tables v) lent y)
-
--- before the clause is put there
-module _ {words cells levels : List ℕ} {s : Standing} {f : Expr} {g a : Goal} (h : Holds words cells levels s (f ∷ g) a) (clause : List ℕ) (k b : ℕ) (c : Clause) (q : ClauseIn clause k b c) where
-  pub head-within : k ≤ length clause
-  head-within = omega (arith, head-length clause k b c q)
-
-  -- the head as it is lent
-  abbrev lent-heap : List ℕ
-  lent-heap = take (s .top - 0) (drop 0 words)
-
-  abbrev lent-head : List ℕ
-  lent-head = take (k - 0) (drop 0 clause)
-
-  here : ClauseIn lent-head k 0 (headed c)
-  here = subst (λ l. ClauseIn l k 0 (headed c)) (inv (part-front k clause)) (head-in clause k b c q)
-
-  head-nodes : nodes lent-head ≡ c .head
-  head-nodes = here .is ∙ append-nil (c .head)
-
-  at-inside : s .at < s .top
-  at-inside = omega (arith, row-inside (used words s) 0 (s .at) (held-row h), length-take-le (s .top) words (h .inside))
-
-  pub told-there : Told lent-heap cells (s .at) lent-head → Meets f c → ⊥
-  told-there o = told-none (subst (λ l. Told l cells (s .at) lent-head) (part-front (s .top) words) o) (h .solved .solves) (held-first h) (inv head-nodes)
-
-  module _ (same : getD clause 0 0 ≡ getD words (s .at) 0) where
-    same-lent : getD lent-head 0 0 ≡ getD (used words s) (s .at) 0
-    same-lent =
-        ap (λ l. getD l 0 0) (part-front k clause) ∙ getD-take k clause 0 0 (omega (arith, q .head, row-long (q .formulas .0))) ∙ same ∙ inv (getD-take (s .top) words (s .at) 0 at-inside)
-
-    pub told-made : Made lent-heap cells × Whole lent-heap 1 (s .at) × Plain (getD lent-heap (s .at) 0)
-    told-made = rw (part-front (s .top) words) (h .made, held-row h, λ z. omega (arith, z, ap kindOf same-lent, first-kind 64 lent-head (c .head) [] (here .fit) (here .is) (here .atoms .0)))
-
-    pub told-head : Valids lent-head × Row 1 (nodes lent-head) × (getD lent-head 0 0 ≡ getD lent-heap (s .at) 0)
-    told-head = (λ x l. here .fit x l .valid, subst (Row 1) (inv head-nodes) (q .formulas .0), same-lent ∙ ap (λ l. getD l (s .at) 0) (inv (part-front (s .top) words)))

@@ -3,4 +3,5 @@ pub mod Undoing
 pub mod Extending
 pub mod Telling
 pub mod Laying
+pub mod PassingLaws
 pub mod Seeking

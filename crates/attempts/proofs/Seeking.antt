@@ -7,11 +7,12 @@ use lib.ListN.{length, getD, take, drop}
 use lib.Seq.{getD-take, length-take-le}
 use Rattle.terms.specs.Node.{Expr}
 use Rattle.search.specs.Next.{Clause, Book, Goal, Meets, clause-at}
-use Rattle.words.specs.Word.{kindOf}
+use Rattle.words.specs.Word.{kindOf, arityOf}
 use Rattle.words.specs.Columns.{every}
 use Rattle.words.specs.Held.{Placed, BookOn, bodies}
-use Rattle.words.specs.Lists.{head-word, Found}
-use Rattle.picking.proofs.Picks.{Passed, passed-more, picked-here, head-first}
+use Rattle.words.specs.Lists.{head-word}
+use Rattle.picking.proofs.Picks.{Passed, passed-more, picked-here}
+use Rattle.heap.specs.Heap.{Whole, Made}
 use Rattle.heap.specs.HeapLaws.{row-inside}
 use Rattle.trials.specs.Trying.{clause-words}
 use Rattle.heapgoals.specs.Holding.{used, Holds}
@@ -21,7 +22,10 @@ use Rattle.attempts.specs.Trying.{Held-trial, Tested, Sought}
 use Rattle.attempts.specs.declared.Attempt.{Attempt}
 use Rattle.attempts.specs.declared.Attempt.the-variants.{Fits as Fits-now, Clash, Tired}
 use Rattle.attempts.specs.declared.Found.the-variants as Seen
-use Rattle.attempts.proofs.Telling.{same-head, found-plain, passed-found}
+use Rattle.attempts.specs.Passing.{Lead, Over}
+use Rattle.attempts.proofs.Extending.{part-front}
+use Rattle.attempts.proofs.Telling.{same-head, head-plain}
+use Rattle.attempts.proofs.PassingLaws.{passed-over, other-meets}
 
 -- where the clause number i stands
 module _ {book shelf : List ℕ} {P : Book} (o : BookOn book shelf P) (i b e t : ℕ) (l : i < length P) (es : (n : ℕ) → i < n → b ≡ getD (every 4 256 n shelf) i 0) (ee : (n : ℕ) → i < n → e ≡ getD (every 4 257 n shelf) i 0)
@@ -34,9 +38,6 @@ module _ {book shelf : List ℕ} {P : Book} (o : BookOn book shelf P) (i b e t :
 
   pub clause-is : take (t - b) (drop b book) ≡ clause-words book shelf (length P) i
   clause-is = let next : i + 1 ≡ suc i = omega arith in rw (es (suc (length P)) (omega (arith, l)), et (suc (length P)) (omega (arith, l)), next) refl
-
-  pub first-word : getD (take (t - b) (drop b book)) 0 0 ≡ head-word book shelf (length P) i
-  first-word = head-first book b t (omega (arith, placed .begins, placed .ends)) ∙ ap (λ x. getD book x 0) (es (suc (length P)) (omega (arith, l)))
 
 -- the clauses before the one number i do not meet what is held, and all is as it was
 pub record Seeking (book shelf words₀ cells₀ rows₀ levels₀ stack₀ : List ℕ) (s : Standing) (all u : ℕ) (words cells rows levels stack : List ℕ) (i : ℕ) : Type 0 where
@@ -54,33 +55,45 @@ module _ {words cells levels : List ℕ} {s : Standing} {f : Expr} {g a : Goal} 
   pub at-below : s .at < s .top
   at-below = omega (arith, row-inside (used words s) 0 (s .at) (held-row h), length-take-le (s .top) words (h .inside))
 
-  pub passed-on : {book shelf : List ℕ} {P : Book} → BookOn book shelf P → {u q r : ℕ} → u ≡ getD words (s .at) 0 → Found book shelf P u q r → r < length P → Passed f P 0 q → Passed f P 0 r
-  passed-on o {u} eu x l p =
+  pub passed-on : {book shelf : List ℕ} {P : Book} → BookOn book shelf P → {u x q r : ℕ} → u ≡ getD words (s .at) 0 → Lead (used words s) cells (s .at) x → Over book shelf P u x q r → r < length P → Passed f P 0 q → Passed f P 0 r
+  passed-on o {u} eu led x l p =
       let here : getD (used words s) (s .at) 0 ≡ u = getD-take (s .top) words (s .at) 0 at-below ∙ inv eu in
       let inside = row-inside (used words s) 0 (s .at) (held-row h) in
-      passed-found o x (λ head k c q t. same-head (used words s) (s .at) inside (h .made .fits (s .at) inside .valid) (λ z. found-plain o x l (ap kindOf (inv here) ∙ z)) (h .meaning) (held-first h) head k c q t ∙ here) p
+      passed-over o x (λ head k c q t. same-head (used words s) (s .at) inside (h .made .fits (s .at) inside .valid) (λ z. head-plain o l (x .here l) (ap kindOf (inv here) ∙ z)) (h .meaning) (held-first h) head k c q t ∙ here)
+      (λ j b e. other-meets o led (h .made) (held-row h) (h .solved .solves) (held-first h) j b (e ∙ inv here)) p
+
+  -- the words in use as they are lent
+  abbrev lent : List ℕ
+  lent = take (s .top - 0) (drop 0 words)
+
+  pub lent-made : Made lent cells × Whole lent 1 (s .at)
+  lent-made = rw (part-front (s .top) words) (h .made, held-row h)
+
+  module _ {x : ℕ} (led : Lead lent cells (s .at) x) where
+    pub lent-lead : Lead (used words s) cells (s .at) x
+    lent-lead = subst (λ l. Lead l cells (s .at) x) (part-front (s .top) words) led
+
+    pub lead-some : {u : ℕ} → u ≡ getD words (s .at) 0 → (x ≡ 0 → ⊥) → 0 < arityOf u
+    lead-some eu n = subst (λ w. 0 < arityOf w) (getD-take (s .top) words (s .at) 0 at-below ∙ inv eu) (lent-lead .some n)
 
 module _ {book shelf words₀ cells₀ rows₀ levels₀ stack₀ : List ℕ} {s : Standing} {all u : ℕ} where
-  pub seek-start : (P : Book) → BookOn book shelf P → all ≡ length P → u ≡ getD words₀ (s .at) 0 → {r : ℕ} → ((P : Book) → BookOn book shelf P → Found book shelf P u 0 r)
+  pub seek-start : {x : ℕ} → Lead (used words₀ s) cells₀ (s .at) x → (P : Book) → BookOn book shelf P → all ≡ length P → u ≡ getD words₀ (s .at) 0 → {r : ℕ} → ((P : Book) → BookOn book shelf P → Over book shelf P u x 0 r)
       → Seeking book shelf words₀ cells₀ rows₀ levels₀ stack₀ s all u words₀ cells₀ rows₀ levels₀ stack₀ r
-  seek-start P o e eu x = record {
-    high = omega (arith, x P o .high, e);
+  seek-start led P o e eu y = record {
+    high = omega (arith, y P o .high, e);
     words-long = refl;
     cells-are = refl;
     rows-long = refl;
     fore = fore-same;
     stack-long = refl;
     front = refl;
-    passing = λ P f g a o h l. passed-on h o eu (x P o) l (λ j b z. absurd (omega (arith, z)));
-    begins = λ P o. x P o .here;
+    passing = λ P f g a o h l. passed-on h o eu led (y P o) l (λ j b z. absurd (omega (arith, z)));
+    begins = λ P o. y P o .here;
   }
 
   module _ {words cells rows levels stack : List ℕ} {i : ℕ} (k : Seeking book shelf words₀ cells₀ rows₀ levels₀ stack₀ s all u words cells rows levels stack i) where
     pub held-now : {g a : Goal} → Holds words₀ cells₀ levels₀ s g a → Holds words cells levels s g a
     held-now {g} {a} h = holds-levels (k .fore) (holds-words (k .front) (omega (arith, h .inside, k .words-long)) (subst (λ l. Holds words₀ l levels₀ s g a) (inv (k .cells-are)) h))
-
-    pub same-word : {f : Expr} {g a : Goal} → Holds words₀ cells₀ levels₀ s (f ∷ g) a → u ≡ getD words₀ (s .at) 0 → u ≡ getD words (s .at) 0
-    same-word h eu = eu ∙ inv (getD-take (s .top) words₀ (s .at) 0 (at-below h)) ∙ ap (λ l. getD l (s .at) 0) (inv (k .front)) ∙ getD-take (s .top) words (s .at) 0 (at-below h)
 
     module _ {P : Book} (o : BookOn book shelf P) {f : Expr} {g a : Goal} (h : Holds words₀ cells₀ levels₀ s (f ∷ g) a) (l : i < length P) (clause words′ cells′ tables : List ℕ) (is : clause ≡ clause-words book shelf (length P) i) (v : Attempt)
         (t : Tested f (clause-at P i) (take (s .top) words) clause words′ cells s cells′ tables v) where
@@ -102,12 +115,12 @@ module _ {book shelf words₀ cells₀ rows₀ levels₀ stack₀ : List ℕ} {s
       pub kept-tired : v ≡ Tired → cells′ ≡ cells₀
       kept-tired e = subst (Tested f (clause-at P i) (take (s .top) words) clause words′ cells s cells′ tables) e t ∙ k .cells-are
 
-    pub seek-again : (P : Book) → BookOn book shelf P → ((P : Book) → BookOn book shelf P → all ≡ length P) → i < all → u ≡ getD words₀ (s .at) 0
-        → {r : ℕ} → ((P : Book) → BookOn book shelf P → i < length P → head-word book shelf (length P) i ≡ u → Found book shelf P u (suc i) r)
+    pub seek-again : {x : ℕ} → Lead (used words₀ s) cells₀ (s .at) x → (P : Book) → BookOn book shelf P → ((P : Book) → BookOn book shelf P → all ≡ length P) → i < all → u ≡ getD words₀ (s .at) 0
+        → {r : ℕ} → ((P : Book) → BookOn book shelf P → i < length P → head-word book shelf (length P) i ≡ u → Over book shelf P u x (suc i) r)
         → {words′ cells′ rows′ levels′ stack′ : List ℕ} → length words′ ≡ length words → cells′ ≡ cells₀ → length rows′ ≡ length rows → Fore levels levels′ → length stack′ ≡ length stack → take (s .top) words′ ≡ take (s .top) words
         → ((P : Book) (f : Expr) (g a : Goal) → BookOn book shelf P → Holds words₀ cells₀ levels₀ s (f ∷ g) a → i < length P → Meets f (clause-at P i) → ⊥)
         → Seeking book shelf words₀ cells₀ rows₀ levels₀ stack₀ s all u words′ cells′ rows′ levels′ stack′ r
-    seek-again P o es under eu {r} x lw ec lr lf ls ew none = record {
+    seek-again {x} led P o es under eu {r} y lw ec lr lf ls ew none = record {
       high = omega (arith, found P o .high, es P o);
       words-long = lw ∙ k .words-long;
       cells-are = ec;
@@ -115,12 +128,12 @@ module _ {book shelf words₀ cells₀ rows₀ levels₀ stack₀ : List ℕ} {s
       fore = fore-after (k .fore) lf;
       stack-long = ls ∙ k .stack-long;
       front = ew ∙ k .front;
-      passing = λ P f g a o h l. let here : i < length P = omega (arith, under, es P o) in passed-on h o eu (found P o) l (next P f (passed-more f P 0 i (k .passing P f g a o h here) (none P f g a o h here)));
+      passing = λ P f g a o h l. let here : i < length P = omega (arith, under, es P o) in passed-on h o eu led (found P o) l (next P f (passed-more f P 0 i (k .passing P f g a o h here) (none P f g a o h here)));
       begins = λ P o. found P o .here;
     }
       where
-        found : (P : Book) → BookOn book shelf P → Found book shelf P u (suc i) r
-        found P o = let here : i < length P = omega (arith, under, es P o) in x P o here (k .begins P o here)
+        found : (P : Book) → BookOn book shelf P → Over book shelf P u x (suc i) r
+        found P o = let here : i < length P = omega (arith, under, es P o) in y P o here (k .begins P o here)
 
         next : (P : Book) (f : Expr) → Passed f P 0 (i + 1) → Passed f P 0 (suc i)
         next P f p = let e : i + 1 ≡ suc i = omega arith in subst (Passed f P 0) e p

@@ -1,2 +1,3 @@
--- A clause tried on the heap.
+-- A clause tried on the heap, and clauses passed over.
 pub mod Trying
+pub mod Passing

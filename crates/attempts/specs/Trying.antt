@@ -1,15 +1,15 @@
 -- A clause tried on a goal's first formula, where variables are bound already, and how that leaves the heap.
 use Prim.Native.Nat.{ℕ, suc, _+_, _<_, _≤_}
 use mathlib.Core.Path.{_≡_}
-use mathlib.Core.List.{List, _∷_, _++_, map}
+use mathlib.Core.List.{List, _++_, map}
 use lib.ListN.{length, take}
 use Rattle.terms.specs.Node.{Expr}
-use Rattle.terms.specs.Subst.{Subst, apply}
+use Rattle.terms.specs.Subst.{Subst}
 use Rattle.search.specs.Next.{Clause, Book, Meets}
-use Rattle.words.specs.Word.{Plain, Valid, Fits, node, nodes}
+use Rattle.words.specs.Word.{Fits, nodes}
 use Rattle.picking.specs.Laying.{moved}
 use Rattle.picking.specs.Picking.{Picked}
-use Rattle.heap.specs.Heap.{rows, Whole, bound, Made, Solves, Solved}
+use Rattle.heap.specs.Heap.{Whole, bound, Made, Solves, Solved}
 use Rattle.matching.specs.Meeting.{Equal}
 use Rattle.matching.specs.Binding.{Trailed}
 use Rattle.matching.specs.Unifying.{Low, Unseen, More}
@@ -57,20 +57,6 @@ abbrev pub Attempted : List ℕ → List ℕ → Standing → List ℕ → List 
 Attempted heap cells s cells′ tables (Fits-now count) = Fitted heap cells s cells′ tables count
 Attempted heap cells s cells′ tables Clash = (cells′ ≡ cells) × ((τ : Subst) → Solves heap cells τ → ¬ Equal heap τ 1 (s .at) (s .top))
 Attempted heap cells s cells′ tables Tired = cells′ ≡ cells
-
--- the row at a position and a head begin with the same symbol, and behind it with different ones
-pub record Told (heap cells : List ℕ) (at : ℕ) (head : List ℕ) : Type 0 where
-  pub u : ℕ
-  pub x : ℕ
-  pub y : ℕ
-  pub plain-u : Plain u
-  pub plain-x : Plain x
-  pub plain-y : Plain y
-  pub valid-x : Valid x
-  pub valid-y : Valid y
-  pub other : x ≡ y → ⊥
-  pub row : (θ : Subst) → Solves heap cells θ → (e : Expr) × (apply θ (rows heap 1 at) ≡ node u ∷ (node x ∷ e))
-  pub head-is : (e : Expr) × (nodes head ≡ node u ∷ (node y ∷ e))
 
 -- the first words are the heap and the clause behind it, and what is bound makes the two equal
 pub record Held-trial (heap clause words cells : List ℕ) (s : Standing) (cells′ tables : List ℕ) (count : ℕ) : Type 0 where

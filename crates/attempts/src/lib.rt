@@ -1,6 +1,6 @@
 // A clause put behind what is held, and tried on the goal's first formula.
-use heap::SYMBOL;
-use heap::follow;
+use crate::passing::hopeful;
+use crate::passing::lead;
 use heapgoals::Standing;
 use heapgoals::clear;
 use matching::binding::undo;
@@ -8,7 +8,6 @@ use matching::unifying::Trial;
 use matching::unifying::Tried;
 use matching::unifying::unify;
 use picking::append;
-use words::arity;
 use words::lists::find;
 use words::lists::find_next;
 use words::shelf::HEAD;
@@ -17,20 +16,18 @@ use words::shelf::clauses;
 use words::shelf::entry;
 use words::word;
 ghost use mathlib.Core.Path.{_≡_};
-ghost use mathlib.Core.Bool.{true};
 ghost use mathlib.Core.List.{List, _∷_};
-ghost use Prim.Native.Nat.{ℕ, _+_, _<_, _≤_};
-ghost use lib.ListN.{length, getD, take};
+ghost use Prim.Native.Nat.{ℕ, _+_, _≤_};
+ghost use lib.ListN.{length, take};
 ghost use Rattle.terms.specs.Node.{Expr};
-ghost use Rattle.terms.specs.Row.{Row};
 ghost use Rattle.search.specs.Next.{Clause, Book, Goal};
-ghost use Rattle.words.specs.Word.{Plain, Valids, nodes};
 ghost use Rattle.words.specs.Columns.{CELLS, WORDS};
 ghost use Rattle.words.specs.Held.{ClauseIn, BookOn};
-ghost use Rattle.heap.specs.Heap.{Made, Whole};
 ghost use Rattle.heapgoals.specs.Holding.{Holds};
 ghost use Rattle.heapgoals.specs.HoldLaws.{Fore};
-ghost use Rattle.attempts.specs.Trying.{Set-up, Undoable, Attempted, Told, Tested, Sought};
+ghost use Rattle.attempts.specs.Trying.{Set-up, Undoable, Attempted, Tested, Sought};
+
+pub mod passing; // clauses that the goal's first argument passes over
 
 // The two are equal now, with so many goal variables on the trail; or they can't be made equal; or nothing is known. Only where they are equal is more bound than before.
 pub enum Attempt {
@@ -96,26 +93,6 @@ fn try_rows(
     }
 }
 
-// Whether two different symbols are first arguments, of the row at a position and of a head whose predicate and arity are the same: then there is no trial to set up.
-fn told_apart(heap: &[u32], cells: &[u16], at: usize, head: &[u32]) -> bool
-    requires { ⌜ Made (now heap) (now cells) × Whole (now heap) 1 at × Plain (getD (now heap) at 0) ⌝ }
-    requires { ⌜ Valids (now head) × Row 1 (nodes (now head)) × (getD (now head) 0 0 ≡ getD (now heap) at 0) ⌝ }
-    ensures { λ r. ⌜ (r ≡ true → Told (now (heap .entry)) (now (cells .entry)) at (now (head .entry))) ⌝ }
-{
-    if arity(word(heap, at)) == 0 {
-        return false;
-    }
-    let y = word(head, 1);
-    if y < SYMBOL {
-        return false;
-    }
-    let x = word(heap, follow(heap, cells, at + 1));
-    if x < SYMBOL {
-        return false;
-    }
-    x != y
-}
-
 // The words of a clause, the first `head` of which are its head, put behind what is held.
 fn try_clause(
     clause: &[u32],
@@ -128,15 +105,12 @@ fn try_clause(
     s: Standing,
 ) -> Attempt
     requires { ⌜ (length (now words) ≤ WORDS) × (s .top + 256 ≤ length (now words)) × (s .base ≤ 8192) × (length (now rows) ≡ CELLS) × (length (now stack) ≡ 387) ⌝ }
-    requires { ⌜ ((f : Expr) × (g : Goal) × (a : Goal) × Holds (now words) (now cells) (now levels) s (f ∷ g) a) × ((c : Clause) × (n : ℕ) × ClauseIn (now clause) head n c) × (getD (now clause) 0 0 ≡ getD (now words) (s .at) 0) ⌝ }
+    requires { ⌜ ((f : Expr) × (g : Goal) × (a : Goal) × Holds (now words) (now cells) (now levels) s (f ∷ g) a) × ((c : Clause) × (n : ℕ) × ClauseIn (now clause) head n c) ⌝ }
     ensures words { λ _. ⌜ take (s .top) (now (words .exit)) ≡ take (s .top) (now (words .entry)) ⌝ }
     ensures levels { λ _. ⌜ Fore (now (levels .entry)) (now (levels .exit)) ⌝ }
     ensures tested { λ r. ⌜ ((f : Expr) (g a : Goal) (c : Clause) (n : ℕ) → Holds (now (words .entry)) (now (cells .entry)) (now (levels .entry)) s (f ∷ g) a → ClauseIn (now (clause .entry)) head n c → Tested f c (take (s .top) (now (words .entry))) (now (clause .entry)) (now (words .exit)) (now (cells .entry)) s (now (cells .exit)) (now (rows .exit)) r) ⌝ }
 {
     let top = s.top;
-    if told_apart(&words[0..top], cells, s.at, &clause[0..head]) {
-        return Attempt::Clash;
-    }
     let r = append(words, top, clause, s.base as u32);
     try_rows(&words[0..r], cells, rows, levels, stack, s)
 }
@@ -165,14 +139,16 @@ pub fn first_fit(
 {
     let all = clauses(shelf);
     let u = word(words, s.at);
-    let mut i = find(book, shelf, u, 0);
+    let top = s.top;
+    let x = lead(&words[0..top], cells, s.at);
+    let mut i = hopeful(book, shelf, u, x, find(book, shelf, u, 0));
     while i < all {
         let b = entry(shelf, START, i);
         let e = entry(shelf, HEAD, i);
         let t = entry(shelf, START, i + 1);
         match try_clause(&book[b..t], e - b, words, cells, rows, levels, stack, s) {
             Attempt::Fits(count) => return Found::Clause(i, count),
-            Attempt::Clash => i = find_next(book, shelf, u, i),
+            Attempt::Clash => i = hopeful(book, shelf, u, x, find_next(book, shelf, u, i)),
             Attempt::Tired => return Found::Unsure,
         }
     }
