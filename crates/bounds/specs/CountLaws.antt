@@ -11,7 +11,8 @@ use Rattle.words.specs.Word.{kindOf, node}
 use Rattle.words.specs.WordLaws.{node-var, node-sym}
 use Rattle.heap.specs.Heap.{rows, Whole, bound, Made, Solved}
 use Rattle.heap.specs.HeapLaws.{rows-none}
-use Rattle.heap.specs.Walking.{ahead, Ready, Visited}
+use Rattle.heap.specs.Walking.{ahead, Ready, Visited, flat}
+use Rattle.heap.specs.LoneLaws.{flat-ready}
 use Rattle.heap.specs.PartLaws.{ahead-alone}
 use Rattle.heap.specs.declared.walking.Walk.{Walk}
 use Rattle.bounds.specs.Places.{places}
@@ -33,26 +34,24 @@ places-cons (sym s) e = omega arith
 pub record Counting (heap cells : List ℕ) (at due limit : ℕ) (levels : List ℕ) (nodes variables : ℕ) (w : Walk) : Type 0 where
   pub ready : Ready heap levels w
   pub deep : w .depth ≤ nodes
-  pub room : 514 ≤ length levels
   pub few : variables ≤ nodes
   pub low : nodes ≤ limit
   pub long : (θ : Subst) → Solved heap cells θ → nodes + length (ahead heap levels θ w) ≡ length (apply θ (rows heap due at))
   pub held : (θ : Subst) → Solved heap cells θ → variables + places (ahead heap levels θ w) ≡ places (apply θ (rows heap due at))
 
 module _ {heap cells : List ℕ} {at due limit : ℕ} where
-  pub count-start : {levels : List ℕ} → Whole heap due at → 514 ≤ length levels → Counting heap cells at due limit levels 0 0 (record { at = at; due = due; depth = 0 })
-  count-start {levels} r l = record {
-    ready = record { front = r; back = λ i h. absurd (omega arith); ended = λ e. refl; room = omega arith };
+  pub count-start : {levels : List ℕ} → Whole heap due at → Counting heap cells at due limit levels 0 0 (flat at due)
+  count-start {levels} r = record {
+    ready = flat-ready r;
     deep = omega arith;
-    room = l;
     few = omega arith;
     low = omega arith;
     long = λ θ s. omega (arith, ap length (alone θ));
     held = λ θ s. omega (arith, ap places (alone θ));
   }
     where
-      alone : (θ : Subst) → ahead heap levels θ (record { at = at; due = due; depth = 0 }) ≡ apply θ (rows heap due at)
-      alone θ = ahead-alone heap cells levels (record { at = at; due = due; depth = 0 }) refl θ
+      alone : (θ : Subst) → ahead heap levels θ (flat at due) ≡ apply θ (rows heap due at)
+      alone θ = ahead-alone heap cells levels (flat at due) refl θ
 
   module _ {levels : List ℕ} {nodes variables : ℕ} {w : Walk} (x : Counting heap cells at due limit levels nodes variables w) where
     pub count-end : w .due ≤ 0 → Sized heap cells at due limit (record { nodes = nodes; variables = variables })
@@ -74,7 +73,6 @@ module _ {heap cells : List ℕ} {at due limit : ℕ} where
     count-on {u} {levels′} {w′} visit more is one en ev = record {
       ready = visit .ready;
       deep = omega (arith, x .deep, visit .deep, en);
-      room = omega (arith, x .room, visit .long);
       few = omega (arith, x .few, one, en, ev);
       low = omega (arith, x .low, more, en);
       long = λ θ s. omega (arith, x .long θ s, ap length (visit .same θ s), en);

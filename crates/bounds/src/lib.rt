@@ -2,7 +2,9 @@
 use heap::SYMBOL;
 use heap::walking::DEEPEST;
 use heap::walking::Walk;
+use heap::walking::lone;
 use heap::walking::next;
+use words::arity;
 use words::get;
 ghost use mathlib.Core.Path.{_≡_};
 ghost use mathlib.Core.List.{[], _∷_};
@@ -83,6 +85,44 @@ pub fn size_of(
     Size { nodes, variables }
 }
 
+// What a row stands for, where each of its words stands for one node; OVER where one does not, or where they pass the limit.
+fn plain_size(heap: &[u32], cells: &[u16], p: usize, limit: usize) -> Size
+    requires { ⌜ Made (now heap) (now cells) × Whole (now heap) 1 p × (limit ≤ 8192) ⌝ }
+    ensures { λ r. ⌜ Sized (now (heap .entry)) (now (cells .entry)) p 1 limit r ⌝ }
+{
+    let mut nodes = 0;
+    let mut variables = 0;
+    let mut due = 1;
+    let mut at = p;
+    while 0 < due {
+        if nodes == limit {
+            return over();
+        }
+        let u = lone(heap, cells, at);
+        if u == 0 {
+            return over();
+        }
+        nodes += 1;
+        variables += one_if_variable(u);
+        due = due - 1 + arity(u);
+        at += 1;
+    }
+    Size { nodes, variables }
+}
+
+// Most rows say it by their own words, and need no walk.
+fn row_size(heap: &[u32], cells: &[u16], levels: &mut [u16], p: usize, limit: usize) -> Size
+    requires { ⌜ Made (now heap) (now cells) × Whole (now heap) 1 p ⌝ }
+    requires { ⌜ (limit ≤ 8192) × (514 ≤ length (now levels)) ⌝ }
+    ensures { λ r. ⌜ Sized (now (heap .entry)) (now (cells .entry)) p 1 limit r ⌝ }
+{
+    let s = plain_size(heap, cells, p, limit);
+    if s.nodes < OVER {
+        return s;
+    }
+    size_of(heap, cells, levels, p, 1, limit)
+}
+
 // The most that a variable of the trail stands for, and 1 at least.
 pub fn growth(
     heap: &[u32],
@@ -102,7 +142,7 @@ pub fn growth(
     while i < count {
         let v = get(trail, i);
         let p = get(cells, v) - 1;
-        let s = size_of(heap, cells, levels, p, 1, limit);
+        let s = row_size(heap, cells, levels, p, limit);
         if s.nodes == OVER {
             return over();
         }

@@ -8,7 +8,7 @@ use lib.ListN.{length, getD, set}
 use Rattle.terms.specs.When.{_⇒_∣_}
 use Rattle.terms.specs.Node.{Expr}
 use Rattle.terms.specs.Subst.{Subst, apply}
-use Rattle.words.specs.Word.{Fit, node}
+use Rattle.words.specs.Word.{arityOf, Fit, node}
 use Rattle.heap.specs.Heap.{rows, Whole, Solved}
 use Rattle.heap.specs.declared.walking.Walk.{Walk}
 
@@ -61,3 +61,11 @@ pub record Visited (heap cells levels : List ℕ) (w : Walk) (u : ℕ) (levels�
   pub fit : Fit (length cells) u
   pub deep : w′ .depth ≤ suc (w .depth)
   pub long : length levels′ ≡ length levels
+
+-- a walk that keeps no level
+abbrev pub flat : ℕ → ℕ → Walk
+flat at due = record { at = at; due = due; depth = 0 }
+
+-- unless u is 0, it is the word of the one node that stands at p, before what stands behind p: a walk needs no level for it
+abbrev pub Lone : List ℕ → List ℕ → ℕ → ℕ → Type 0
+Lone heap cells p u = (u ≡ 0 → ⊥) → (due : ℕ) → 0 < due → Whole heap due p → Visited heap cells [] (flat p due) u [] (flat (suc p) (arityOf u + (due - 1)))

@@ -8,7 +8,7 @@ ghost use mathlib.Core.Path.{_≡_};
 ghost use Prim.Native.Nat.{ℕ, _+_, _*_, _<_, _≤_};
 ghost use lib.ListN.{length};
 ghost use Rattle.heap.specs.Heap.{Made};
-ghost use Rattle.heap.specs.Walking.{settled, entered, pushed, Ready, Visited};
+ghost use Rattle.heap.specs.Walking.{settled, entered, pushed, Ready, Visited, Lone};
 
 // `due` rows from the position `at` on are to be visited, and then those of the levels, the last first. A level is two numbers: its position,
 // and how many rows are due there.
@@ -107,4 +107,21 @@ pub fn next(heap: &[u32], cells: &[u16], levels: &mut [u16], w: Walk) -> Seen
     }
     let walk = within(levels, w, q + 1, k);
     Seen { word: x, walk }
+}
+
+// What the word at p stands for, where no level is needed for it: the word of a symbol, or of the variable that is not bound or the symbol without arguments
+// that a variable stands for. 0 where a variable stands for more than one node.
+pub fn lone(heap: &[u32], cells: &[u16], p: usize) -> u32
+    requires { ⌜ Made (now heap) (now cells) × (p < length (now heap)) ⌝ }
+    ensures { λ r. ⌜ Lone (now (heap .entry)) (now (cells .entry)) p r ⌝ }
+{
+    let u = word(heap, p);
+    if SYMBOL <= u {
+        return u;
+    }
+    let x = word(heap, follow(heap, cells, p));
+    if 0 < arity(x) {
+        return 0;
+    }
+    x
 }

@@ -12,14 +12,19 @@ use Rattle.words.specs.Word.{kindOf, Fit, node}
 use Rattle.words.specs.WordLaws.{in-node, word-var, node-var}
 use Rattle.heap.specs.Heap.{rows, Whole, Solved}
 use Rattle.heap.specs.HeapLaws.{rows-none}
-use Rattle.heap.specs.Walking.{ahead, Ready, Visited}
+use Rattle.heap.specs.Walking.{ahead, Ready, Visited, flat}
+use Rattle.heap.specs.LoneLaws.{flat-ready}
 use Rattle.heap.specs.PartLaws.{ahead-alone}
 use Rattle.heap.specs.declared.walking.Walk.{Walk}
 use Rattle.matching.specs.declared.occurring.Look.{Look}
 use Rattle.matching.specs.declared.occurring.Look.the-variants.{Away, There, Tired}
 
+-- it is not
+abbrev pub Apart : List ℕ → List ℕ → ℕ → ℕ → Type 0
+Apart heap cells v p = (θ : Subst) → Solved heap cells θ → ¬ In v (apply θ (rows heap 1 p))
+
 abbrev pub Looked : List ℕ → List ℕ → ℕ → ℕ → ℕ → Look → Type 0
-Looked heap cells v p fuel (Away left) = (left ≤ fuel) × ((θ : Subst) → Solved heap cells θ → ¬ In v (apply θ (rows heap 1 p)))
+Looked heap cells v p fuel (Away left) = (left ≤ fuel) × Apart heap cells v p
 Looked heap cells v p fuel There = (θ : Subst) → Solved heap cells θ → In v (apply θ (rows heap 1 p))
 Looked heap cells v p fuel Tired = Unit {0}
 
@@ -27,16 +32,14 @@ Looked heap cells v p fuel Tired = Unit {0}
 pub record Seeking (heap cells : List ℕ) (v p fuel : ℕ) (levels : List ℕ) (left : ℕ) (w : Walk) : Type 0 where
   pub ready : Ready heap levels w
   pub deep : w .depth + left ≤ fuel
-  pub long : 514 ≤ length levels
   pub so-far : (θ : Subst) → Solved heap cells θ → (done : Expr) × (done ++ ahead heap levels θ w ≡ apply θ (rows heap 1 p)) × ¬ In v done
 
 module _ {heap cells : List ℕ} {v p fuel : ℕ} where
-  pub seek-start : {levels : List ℕ} → Whole heap 1 p → 514 ≤ length levels → Seeking heap cells v p fuel levels fuel (record { at = p; due = 1; depth = 0 })
+  pub seek-start : {levels : List ℕ} → Whole heap 1 p → {left : ℕ} → left ≤ fuel → Seeking heap cells v p fuel levels left (flat p 1)
   seek-start {levels} r l = record {
-    ready = record { front = r; back = λ i h. absurd (omega arith); ended = λ e. absurd (omega arith); room = omega arith };
+    ready = flat-ready r;
     deep = omega arith;
-    long = l;
-    so-far = λ θ s. ([], ahead-alone heap cells levels (record { at = p; due = 1; depth = 0 }) refl θ, λ i. i);
+    so-far = λ θ s. ([], ahead-alone heap cells levels (flat p 1) refl θ, λ i. i);
   }
 
   module _ {levels : List ℕ} {left : ℕ} {w : Walk} (x : Seeking heap cells v p fuel levels left w) where
@@ -65,7 +68,6 @@ module _ {heap cells : List ℕ} {v p fuel : ℕ} where
       seek-on n l e = record {
         ready = visit .ready;
         deep = omega (arith, x .deep, visit .deep, e, l);
-        long = omega (arith, x .long, visit .long);
         so-far = λ θ s.
             let (done, same, away) = x .so-far θ s in
             (done ++ (node u ∷ []), append-assoc done (node u ∷ []) _ ∙ ap (λ y. done ++ y) (inv (visit .same θ s)) ∙ same, λ i. elim (in-append v done (node u ∷ []) i) [ inl j ↦ away j | inr j ↦ other j ]);

@@ -32,6 +32,6 @@ growth-spec =
     (λ c κs. search needs)
     (λ c. search needs)
     (λ c. search needs)
-    (λ c. let k = c .before .before .before .before .before .before .before .before .before .before .before .before .before .before .before .before .pre in let m = k .0 in let i = c .before .before .before .before .before .before .before .before .before .before .before .loop .inv in let g = grown-on (m .0) (m .1) _ (omega (arith, i .1)) (c .before .before .before .before .before .before .before .before .before .get .ensures .0) (c .before .before .before .before .before .before .before .before .get2 .ensures .0) refl (i .0) (i .2) (k .1 .1) (c .before .before .before .before .before .before .size-of .ensures) (c .before .before .if1 .left) (c .before .larger .ensures) (c .larger2 .ensures) refl in (g .0, omega (arith, i .1), g .1, search needs))
+    (λ c. let k = c .before .before .before .before .before .before .before .before .before .before .before .before .before .before .before .before .pre in let m = k .0 in let i = c .before .before .before .before .before .before .before .before .before .before .before .loop .inv in let g = grown-on (m .0) (m .1) _ (omega (arith, i .1)) (c .before .before .before .before .before .before .before .before .before .get .ensures .0) (c .before .before .before .before .before .before .before .before .get2 .ensures .0) refl (i .0) (i .2) (k .1 .1) (c .before .before .before .before .before .before .row-size .ensures) (c .before .before .if1 .left) (c .before .larger .ensures) (c .larger2 .ensures) refl in (g .0, omega (arith, i .1), g .1, search needs))
     (λ c. search needs)
     (λ c. let i = c .before .loop .inv in grown-end (i .0) (omega (arith, i .1)) (i .1)))

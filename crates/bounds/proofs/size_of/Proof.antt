@@ -19,7 +19,7 @@ size-of-spec =
     (tie.spec
     Inv-loop
     μ-loop
-    (λ c. let k = c .before .before .before .pre in (count-start (k .0 .1) (k .1 .1), refl))
+    (λ c. let k = c .before .before .before .pre in (count-start (k .0 .1), refl))
     (λ c κs. search needs)
     (λ c. search needs)
     (λ c. search needs)
