@@ -19,12 +19,8 @@ use Rattle.heap.specs.declared.walking.Walk.{Walk}
 use Rattle.matching.specs.declared.occurring.Look.{Look}
 use Rattle.matching.specs.declared.occurring.Look.the-variants.{Away, There, Tired}
 
--- it is not
-abbrev pub Apart : List ℕ → List ℕ → ℕ → ℕ → Type 0
-Apart heap cells v p = (θ : Subst) → Solved heap cells θ → ¬ In v (apply θ (rows heap 1 p))
-
 abbrev pub Looked : List ℕ → List ℕ → ℕ → ℕ → ℕ → Look → Type 0
-Looked heap cells v p fuel (Away left) = (left ≤ fuel) × Apart heap cells v p
+Looked heap cells v p fuel (Away left) = (left ≤ fuel) × ((θ : Subst) → Solved heap cells θ → ¬ In v (apply θ (rows heap 1 p)))
 Looked heap cells v p fuel There = (θ : Subst) → Solved heap cells θ → In v (apply θ (rows heap 1 p))
 Looked heap cells v p fuel Tired = Unit {0}
 
@@ -35,12 +31,16 @@ pub record Seeking (heap cells : List ℕ) (v p fuel : ℕ) (levels : List ℕ) 
   pub so-far : (θ : Subst) → Solved heap cells θ → (done : Expr) × (done ++ ahead heap levels θ w ≡ apply θ (rows heap 1 p)) × ¬ In v done
 
 module _ {heap cells : List ℕ} {v p fuel : ℕ} where
-  pub seek-start : {levels : List ℕ} → Whole heap 1 p → {left : ℕ} → left ≤ fuel → Seeking heap cells v p fuel levels left (flat p 1)
-  seek-start {levels} r l = record {
+  pub seek-start : {levels : List ℕ} → Whole heap 1 p → Seeking heap cells v p fuel levels fuel (flat p 1)
+  seek-start {levels} r = record {
     ready = flat-ready r;
     deep = omega arith;
     so-far = λ θ s. ([], ahead-alone heap cells levels (flat p 1) refl θ, λ i. i);
   }
+
+  -- a walk that keeps no level goes on with any
+  pub seek-flat : {left at due : ℕ} → Seeking heap cells v p fuel [] left (flat at due) → {levels : List ℕ} → Seeking heap cells v p fuel levels left (flat at due)
+  seek-flat x = record { ready = flat-ready (x .ready .front); deep = x .deep; so-far = x .so-far }
 
   module _ {levels : List ℕ} {left : ℕ} {w : Walk} (x : Seeking heap cells v p fuel levels left w) where
     pub seek-end : w .due ≤ 0 → Looked heap cells v p fuel (Away left)

@@ -4,12 +4,12 @@ use heap::walking::Walk;
 use heap::walking::lone;
 use heap::walking::next;
 use words::arity;
-ghost use mathlib.Core.Path.{_≡_};
-ghost use mathlib.Core.Bool.{true};
+ghost use mathlib.Core.List.{[]};
 ghost use Prim.Native.Nat.{_<_, _≤_};
 ghost use lib.ListN.{length};
 ghost use Rattle.heap.specs.Heap.{Made, Whole};
-ghost use Rattle.matching.specs.Occurring.{Apart, Looked};
+ghost use Rattle.heap.specs.Walking.{flat};
+ghost use Rattle.matching.specs.Occurring.{Looked, Seeking};
 
 // It is not, and so many nodes may still be visited; it is; or there were too many nodes or levels to say.
 pub enum Look {
@@ -18,39 +18,59 @@ pub enum Look {
     Tired,
 }
 
-// Whether it is plainly not: each word of the row stands for one node, and for another one. Most rows are such, and neither walked nor paid for.
-fn away(heap: &[u32], cells: &[u16], v: usize, p: usize) -> bool
-    requires { ⌜ Made (now heap) (now cells) × Whole (now heap) 1 p × (v < 65536) ⌝ }
-    ensures { λ r. ⌜ (r ≡ true → Apart (now (heap .entry)) (now (cells .entry)) v p) ⌝ }
-{
-    let sought = 0x100_0000 + v as u32;
-    let mut due = 1;
-    let mut at = p;
-    while 0 < due {
-        let u = lone(heap, cells, at);
-        if u == 0 {
-            return false;
-        }
-        if u == sought {
-            return false;
-        }
-        due = due - 1 + arity(u);
-        at += 1;
-    }
-    true
+// What is left of a row: `due` rows from the position `at` on, and so many nodes that may still be visited.
+struct Rest {
+    at: usize,
+    due: usize,
+    left: usize,
 }
 
-// The answer of a walk, for any row.
-fn seek(heap: &[u32], cells: &[u16], levels: &mut [u16], v: usize, p: usize, fuel: usize) -> Look
+// What is left behind those of the row's own words that stand for one node each, and not for v. Most rows end so, and need no walk.
+fn skim(heap: &[u32], cells: &[u16], v: usize, p: usize, fuel: usize) -> Rest
     requires { ⌜ Made (now heap) (now cells) × Whole (now heap) 1 p × (v < 65536) ⌝ }
+    ensures { λ r. ⌜ Seeking (now (heap .entry)) (now (cells .entry)) v p fuel [] (r .left) (flat (r .at) (r .due)) ⌝ }
+{
+    let sought = 0x100_0000 + v as u32;
+    let mut at = p;
+    let mut due = 1;
+    let mut left = fuel;
+    while 0 < due {
+        if left == 0 {
+            return Rest { at, due, left };
+        }
+        let u = lone(heap, cells, at);
+        if u == 0 {
+            return Rest { at, due, left };
+        }
+        if u == sought {
+            return Rest { at, due, left };
+        }
+        at += 1;
+        due = due - 1 + arity(u);
+        left -= 1;
+    }
+    Rest { at, due, left }
+}
+
+// What a walk over the rest says.
+fn seek(
+    heap: &[u32],
+    cells: &[u16],
+    levels: &mut [u16],
+    v: usize,
+    p: usize,
+    fuel: usize,
+    rest: Rest,
+) -> Look
+    requires { ⌜ Made (now heap) (now cells) × Seeking (now heap) (now cells) v p fuel [] (rest .left) (flat (rest .at) (rest .due)) × (v < 65536) ⌝ }
     requires { ⌜ (fuel ≤ 8448) × (514 ≤ length (now levels)) ⌝ }
     ensures { λ r. ⌜ Looked (now (heap .entry)) (now (cells .entry)) v p fuel r ⌝ }
 {
     let sought = 0x100_0000 + v as u32;
-    let mut left = fuel;
+    let mut left = rest.left;
     let mut w = Walk {
-        at: p,
-        due: 1,
+        at: rest.at,
+        due: rest.due,
         depth: 0,
     };
     while 0 < w.due {
@@ -82,8 +102,9 @@ pub fn occurs(
     requires { ⌜ (fuel ≤ 8448) × (514 ≤ length (now levels)) ⌝ }
     ensures { λ r. ⌜ Looked (now (heap .entry)) (now (cells .entry)) v p fuel r ⌝ }
 {
-    if away(heap, cells, v, p) {
-        return Look::Away(fuel);
+    let rest = skim(heap, cells, v, p, fuel);
+    if rest.due == 0 {
+        return Look::Away(rest.left);
     }
-    seek(heap, cells, levels, v, p, fuel)
+    seek(heap, cells, levels, v, p, fuel, rest)
 }

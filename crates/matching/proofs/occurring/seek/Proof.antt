@@ -2,7 +2,7 @@ use Prim.Native.Nat.{_+_}
 use native.Mathlib.Omega.{arith}
 use mathlib.Core.Path.{_≡_, refl, _∙_}
 use lib.ListN.{length}
-use Rattle.matching.specs.Occurring.{Seeking, seek-start, seek-end, seek-there, seek-on}
+use Rattle.matching.specs.Occurring.{Seeking, seek-flat, seek-end, seek-there, seek-on}
 use borrow.Author.Needs.{needs}
 use Rattle.matching.proofs.occurring.seek.Statement.{statement}
 use Rattle.matching.proofs.occurring.seek.Tie as tie
@@ -21,7 +21,7 @@ seek-spec =
     μ-loop
     (λ c. search needs)
     (λ c. search needs)
-    (λ c. let k = c .before .before .before .pre in (seek-start (k .0 .1) (omega arith), refl, omega arith))
+    (λ c. let k = c .before .before .before .pre in (seek-flat (k .0 .1), refl, omega arith))
     (λ c. c .before .before .before .loop .inv .1)
     (λ c. tt)
     (λ c. c .before .before .before .before .before .loop .inv .1)
