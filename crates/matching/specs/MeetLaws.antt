@@ -78,7 +78,7 @@ module _ {heap cells : List ℕ} (made : Made heap cells) {p q a b : ℕ} (left 
         at-b τ = stands-sym heap b (right .row .inside) τ (fit-b .valid) plain-b (e ∙ ap arityOf same)
 
   -- a variable that is not bound, on the other's row
-  bind-left : kindOf x ≡ 1 → Bindable heap cells p q (x % 65536) b
+  pub bind-left : kindOf x ≡ 1 → Bindable heap cells p q (x % 65536) b
   bind-left k = record {
     free = left .stops k;
     inside = fit-a .below k;

@@ -19,8 +19,12 @@ use Rattle.heap.specs.declared.walking.Walk.{Walk}
 use Rattle.matching.specs.declared.occurring.Look.{Look}
 use Rattle.matching.specs.declared.occurring.Look.the-variants.{Away, There, Tired}
 
+-- v is not in what the row at p stands for
+abbrev pub Apart : List ℕ → List ℕ → ℕ → ℕ → Type 0
+Apart heap cells v p = (θ : Subst) → Solved heap cells θ → ¬ In v (apply θ (rows heap 1 p))
+
 abbrev pub Looked : List ℕ → List ℕ → ℕ → ℕ → ℕ → Look → Type 0
-Looked heap cells v p fuel (Away left) = (left ≤ fuel) × ((θ : Subst) → Solved heap cells θ → ¬ In v (apply θ (rows heap 1 p)))
+Looked heap cells v p fuel (Away left) = (left ≤ fuel) × Apart heap cells v p
 Looked heap cells v p fuel There = (θ : Subst) → Solved heap cells θ → In v (apply θ (rows heap 1 p))
 Looked heap cells v p fuel Tired = Unit {0}
 

@@ -5,4 +5,5 @@ pub mod pairs; // pairs that are still due
 pub mod occurring; // the occur check
 pub mod binding; // bindings, and how they are undone
 pub mod unifying; // two rows made equal
-pub mod heads; // a head made equal to a formula, mostly by its own variables
+pub mod heads; // a head and a formula made equal by the head's own variables
+pub mod fitting; // and by all
