@@ -4,9 +4,9 @@ use crate::passing::lead;
 use heapgoals::Standing;
 use heapgoals::clear;
 use matching::binding::undo;
+use matching::fitting::fit;
 use matching::unifying::Trial;
 use matching::unifying::Tried;
-use matching::unifying::unify;
 use picking::append;
 use words::lists::find;
 use words::lists::find_next;
@@ -71,7 +71,7 @@ fn try_rows(
     ensures levels { λ _. ⌜ Fore (now (levels .entry)) (now (levels .exit)) ⌝ }
 {
     let t = begun(s);
-    match unify(
+    match fit(
         heap,
         cells,
         &mut rows[16512..24960],
