@@ -5,3 +5,4 @@ pub mod Telling
 pub mod Laying
 pub mod PassingLaws
 pub mod Seeking
+pub mod FactLaws

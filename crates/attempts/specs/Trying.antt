@@ -5,7 +5,7 @@ use mathlib.Core.List.{List, _++_, map}
 use lib.ListN.{length, take}
 use Rattle.terms.specs.Node.{Expr}
 use Rattle.terms.specs.Subst.{Subst}
-use Rattle.search.specs.Next.{Clause, Book, Meets}
+use Rattle.search.specs.Next.{Clause, Book, Meets, clause-at}
 use Rattle.words.specs.Word.{Fits, nodes}
 use Rattle.picking.specs.Laying.{moved}
 use Rattle.picking.specs.Picking.{Picked}
@@ -15,6 +15,7 @@ use Rattle.matching.specs.Binding.{Trailed}
 use Rattle.matching.specs.Unifying.{Low, Unseen, More}
 use Rattle.trials.specs.Trying.{trail, clause-words}
 use Rattle.heapgoals.specs.declared.Standing.{Standing}
+use Rattle.attempts.specs.Facts.{Given}
 use Rattle.attempts.specs.declared.Attempt.{Attempt}
 use Rattle.attempts.specs.declared.Attempt.the-variants.{Fits as Fits-now, Clash, Tired}
 use Rattle.attempts.specs.declared.Found.{Found}
@@ -69,7 +70,8 @@ Tested f c heap clause words cells s cells′ tables (Fits-now count) = Meets f 
 Tested f c heap clause words cells s cells′ tables Clash = (Meets f c → ⊥) × (cells′ ≡ cells)
 Tested f c heap clause words cells s cells′ tables Tired = cells′ ≡ cells
 
--- the first clause that fits, and its trial; or nothing is known
+-- the first clause that fits, and its trial; or it is a fact that needs none; or nothing is known
 abbrev pub Sought : Book → Expr → List ℕ → List ℕ → List ℕ → List ℕ → List ℕ → Standing → List ℕ → List ℕ → Found → Type 0
 Sought P f book shelf heap words cells s cells′ tables (Found.Clause i count) = Picked f P 0 i × (i < length P) × Held-trial heap (clause-words book shelf (length P) i) words cells s cells′ tables count
+Sought P f book shelf heap words cells s cells′ tables (Found.Given i) = Picked f P 0 i × (i < length P) × Given f (clause-at P i) × (cells′ ≡ cells)
 Sought P f book shelf heap words cells s cells′ tables Found.Unsure = cells′ ≡ cells

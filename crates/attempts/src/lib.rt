@@ -1,4 +1,5 @@
 // A clause put behind what is held, and tried on the goal's first formula.
+use crate::facts::is_given;
 use crate::passing::hopeful;
 use crate::passing::lead;
 use heapgoals::Standing;
@@ -28,6 +29,7 @@ ghost use Rattle.heapgoals.specs.HoldLaws.{Fore};
 ghost use Rattle.attempts.specs.Trying.{Set-up, Undoable, Attempted, Tested, Sought};
 
 pub mod passing; // clauses that the goal's first argument passes over
+pub mod facts; // facts that need no trial
 
 // The two are equal now, with so many goal variables on the trail; or they can't be made equal; or nothing is known. Only where they are equal is more bound than before.
 pub enum Attempt {
@@ -115,9 +117,10 @@ fn try_clause(
     try_rows(&words[0..r], cells, rows, levels, stack, s)
 }
 
-// The first clause that fits, by its number, and how many goal variables its trial has bound; or nothing is known.
+// The first clause that fits, by its number, and how many goal variables its trial has bound, or that it is a fact which stands there; or nothing is known.
 pub enum Found {
     Clause(usize, usize),
+    Given(usize),
     Unsure,
 }
 
@@ -143,6 +146,9 @@ pub fn first_fit(
     let x = lead(&words[0..top], cells, s.at);
     let mut i = hopeful(book, shelf, u, x, find(book, shelf, u, 0));
     while i < all {
+        if is_given(book, shelf, words, s, i) {
+            return Found::Given(i);
+        }
         let b = entry(shelf, START, i);
         let e = entry(shelf, HEAD, i);
         let t = entry(shelf, START, i + 1);

@@ -3,5 +3,6 @@ mod Entering
 mod Nexts
 mod Going
 mod Treading
+mod Dropping
 mod Summing
 mod Bounding

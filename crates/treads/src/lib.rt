@@ -30,6 +30,7 @@ ghost use Rattle.heap.specs.Walking.{Levels};
 ghost use Rattle.figures.specs.Figures.{Figure-of, Figured};
 ghost use Rattle.heapgoals.specs.Holding.{Holds};
 ghost use Rattle.trials.specs.Trying.{clause-words};
+ghost use Rattle.attempts.specs.Facts.{Bare};
 ghost use Rattle.treads.specs.Adding.{span-words, head-long};
 ghost use Rattle.treads.specs.Stepping.{Under-way, Entered, Went, Treads};
 
@@ -114,6 +115,30 @@ fn go(
     })
 }
 
+// Where the goal stands without its first formula, and with no body in its place.
+fn drop_first(words: &[u32], levels: &mut [u16], s: Standing) -> Standing
+    requires { ⌜ ((cells : List ℕ) × (f : Expr) × (g : Goal) × (a : Goal) × Holds (now words) cells (now levels) s (f ∷ g) a) × (s .depth < 256) ⌝ }
+    ensures top { λ r. ⌜ r .top ≡ s .top ⌝ }
+    ensures held { λ r. ⌜ ((cells : List ℕ) (f : Expr) (g a : Goal) → Bare f → Holds (now (words .entry)) cells (now (levels .entry)) s (f ∷ g) a → Holds (now (words .entry)) cells (now (levels .exit)) r g a) ⌝ }
+{
+    let top = s.top;
+    let w = entered(&words[0..top], levels, s, top, 0);
+    Standing {
+        at: w.at,
+        due: w.due,
+        depth: w.depth,
+        formulas: s.formulas - 1,
+        answer: s.answer,
+        answers: s.answers,
+        top,
+        base: s.base,
+        nodes: s.nodes,
+        found: s.found,
+        variables: s.variables,
+        least: 0,
+    }
+}
+
 // The clause number i, with its figure.
 fn clause_at(book: &[u32], shelf: &[u16], figures: &mut [u16], i: usize) -> Span
     requires { ⌜ ((P : Book) × BookOn (now book) (now shelf) P × (i < length P)) × Figured (now book) (now shelf) (now figures) × (length (now figures) ≡ 1024) ⌝ }
@@ -180,6 +205,7 @@ pub fn take_step(
         s,
     ) {
         Found::Unsure => Tread::Stays,
+        Found::Given(_) => Tread::Goes(drop_first(words, levels, s)),
         Found::Clause(i, count) => {
             let c = clause_at(book, shelf, &mut stack[387..1411], i);
             let end = s.top + (c.end - c.start);
