@@ -5,7 +5,8 @@ use mathlib.Core.Path.{_≡_, sym as inv, ap, ap₂, _∙_, subst}
 use mathlib.Core.List.{List, _++_, map, append-assoc, map-append}
 use lib.ListN.{length, getD, take, drop, length-drop, length-append, length-map, take-append-drop}
 use lib.Seq.{take-at, take-take, length-take-le, drop-at, take-add}
-use Rattle.words.specs.WordLaws.{each-append}
+use Rattle.words.specs.Word.{Valid, Valids}
+use Rattle.words.specs.WordLaws.{each-append, each-take, each-drop}
 use Rattle.picking.specs.Laying.{moved, Appended}
 use Rattle.applying.specs.Applying.{Built}
 
@@ -17,6 +18,10 @@ pub drop-take : (p r : ℕ) (z : List ℕ) → p ≤ r → r ≤ length z → ta
 drop-take p r z h l =
     let e : p + (r - p) ≡ r = omega arith in
     inv (drop-at (take p z) (take (r - p) (drop p z)) p (length-take-le p z (omega arith))) ∙ ap (drop p) (inv (take-add p (r - p) z) ∙ ap (λ n. take n z) e)
+
+-- what is lent from p on
+pub rest-valid : (p : ℕ) (l : List ℕ) → Valids l → Valids (take (length l - p) (drop p l))
+rest-valid p l v = each-take Valid (length l - p) (drop p l) (each-drop Valid p l v)
 
 pub built : (row clause b g w₀ w₁ w₂ : List ℕ) (m k a r : ℕ) → m ≤ length row → k ≤ length clause → Appended w₀ (m + k) b 0 w₁ a → Appended w₁ a g 64 w₂ r → b ≡ drop k clause → g ≡ drop m row
     → Built w₀ row m clause k w₂ r

@@ -8,7 +8,7 @@ ghost use Rattle.terms.specs.Node.{Expr};
 ghost use Rattle.terms.specs.Subst.{apply};
 ghost use Rattle.search.specs.Next.{Clause, Goal};
 ghost use Rattle.words.specs.Columns.{WORDS, Only, STACK};
-ghost use Rattle.words.specs.Word.{nodes, Fits};
+ghost use Rattle.words.specs.Word.{nodes, Valids, Fits};
 ghost use Rattle.numbering.specs.Naming.{NAMES};
 ghost use Rattle.positions.specs.Tables.{SolvedIn, solutionIn};
 ghost use Rattle.picking.specs.Picking.{Matched};
@@ -34,7 +34,7 @@ pub struct Sizes {
 
 // Behind the first formula and the head: the body, and the rest of the row, moved past the clause's variables; where they end.
 fn build(words: &mut [u32], row: &[u32], m: usize, clause: &[u32], k: usize) -> usize
-    requires { ⌜ (m ≤ length (now row)) × (length (now row) ≤ 8192) × (k ≤ length (now clause)) × (length (now clause) ≤ 256) × (length (now words) ≡ WORDS) ⌝ }
+    requires { ⌜ (m ≤ length (now row)) × (length (now row) ≤ 8192) × (k ≤ length (now clause)) × (length (now clause) ≤ 256) × (length (now words) ≡ WORDS) × Valids (now row) × Valids (now clause) ⌝ }
     ensures { λ r. ⌜ Built (now (words .entry)) (now (row .entry)) m (now (clause .entry)) k (now (words .exit)) r ⌝ }
 {
     let b = picking::append(words, m + k, &clause[k..], 0);

@@ -21,7 +21,7 @@ use Rattle.words.specs.WordLaws.{each-append, fits-more, in-fits}
 use Rattle.words.specs.Flat.{flat, flat-append, rename-append}
 use Rattle.words.specs.Held.{RowIn, ClauseIn}
 use Rattle.picking.specs.Laying.{moved}
-use Rattle.picking.proofs.Appends.{nodes-moved, fits-moved}
+use Rattle.picking.proofs.Appends.{row-fits, nodes-moved, fits-moved}
 use Rattle.picking.proofs.Problems.{in-flat}
 use Rattle.heap.specs.Heap.{rows, Whole, bound, Made}
 use Rattle.matching.specs.Unifying.{Low}
@@ -94,9 +94,6 @@ module _ (row clause : List ℕ) (w n k b : ℕ) (f : Expr) (g a : Goal) (c : Cl
   pub goal-length : w ≡ length (f ++ flat g)
   goal-length = inv (length-take-le w row (p .within)) ∙ inv (length-map (take w row) node) ∙ ap length (p .goal .is)
 
-  pub row-fits : Fits 8192 row
-  row-fits = subst (Fits 8192) (take-append-drop w row) (each-append (Fit 8192) (take w row) (drop w row) (fits-more 4096 8192 (take w row) (omega arith) (p .goal .fit)) (p .answer .fit))
-
   pub row-small : length row ≤ 8192
   row-small = omega (arith, p .goal .size, p .answer .size, length-take-le w row (p .within), length-drop w row)
 
@@ -104,7 +101,7 @@ module _ (row clause : List ℕ) (w n k b : ℕ) (f : Expr) (g a : Goal) (c : Cl
   heap-length = length-append row (map (moved 8192) clause) ∙ ap (λ i. length row + i) (length-map clause (moved 8192))
 
   heap-fits : Fits 8256 heap
-  heap-fits = each-append (Fit 8256) row (map (moved 8192) clause) (fits-more 8192 8256 row (omega arith) row-fits) (fits-moved 8192 64 (omega arith) clause (q .fit))
+  heap-fits = each-append (Fit 8256) row (map (moved 8192) clause) (fits-more 8192 8256 row (omega arith) (row-fits p)) (fits-moved 8192 64 (omega arith) clause (q .fit))
 
   pub heap-made : (cells : List ℕ) → length cells ≡ 8256 → Free cells → Made heap cells
   heap-made cells l free = record {
@@ -118,7 +115,7 @@ module _ (row clause : List ℕ) (w n k b : ℕ) (f : Expr) (g a : Goal) (c : Cl
   pub heap-low : (i : ℕ) → i ≡ length row → Low heap 8192 i
   heap-low i e r l w v j =
       let all-rows = row-append (flat-rows (f ∷ g) (p .goal .formulas)) (flat-rows a (p .answer .formulas)) in
-      in-fits 8192 v row row-fits
+      in-fits 8192 v row (row-fits p)
       (subst (In v) (inv row-nodes) (in-rows all-rows (head ++ body) r (omega (arith, l, e, row-length)) v (subst (λ x. In v (firsts 1 (drop r x))) all j)))
 
   -- the formula, and the head
@@ -190,7 +187,7 @@ module _ (row clause : List ℕ) (w n k b : ℕ) (f : Expr) (g a : Goal) (c : Cl
 
   -- no variable of the row is one of the clause
   in-row : (v : ℕ) → In-any v (f ∷ (g ++ a)) → v < 8192
-  in-row v i = in-fits 8192 v row row-fits (subst (In v) (flat-append (f ∷ g) a ∙ inv row-nodes) (in-flat v (f ∷ (g ++ a)) i))
+  in-row v i = in-fits 8192 v row (row-fits p) (subst (In v) (flat-append (f ∷ g) a ∙ inv row-nodes) (in-flat v (f ∷ (g ++ a)) i))
 
   pub apart-far : Apart own-name past-name (f ∷ (g ++ a)) (c .head ∷ c .body)
   apart-far = record { left = λ v x i j e. e; right = λ v x i j e. omega (arith, e); shared = λ v x i j e. omega (arith, e, in-row v i) }

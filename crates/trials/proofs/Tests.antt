@@ -7,6 +7,7 @@ use lib.ListN.{length, getD, take, drop, length-drop}
 use lib.Seq.{take-take, take-at, length-take-le, getD-take}
 use Rattle.terms.specs.Node.{Expr}
 use Rattle.search.specs.Next.{Clause, Book, Goal, clause-at}
+use Rattle.words.specs.Word.{Valids}
 use Rattle.words.specs.Columns.{every}
 use Rattle.words.specs.Held.{GoalIn, ClauseIn, RowIn, BookOn, starts, heads, bodies}
 use Rattle.words.specs.HeldLaws.{formula-in, first-length}
@@ -59,6 +60,9 @@ module _ {book shelf : List ℕ} {P : Book} (o : BookOn book shelf P) (i s t : �
 
   pub clause-held : ClauseIn (clause-words book shelf (length P) i) (getD (heads (length P) shelf) i 0 - getD (starts (length P) shelf) i 0) (getD (bodies (length P) shelf) i 0) (clause-at P i)
   clause-held = o .held .placed i l .clause
+
+  pub clause-valid : Valids (take (t - s) (drop s book))
+  clause-valid = subst Valids (inv clause-is) (λ x h. clause-held .fit x h .valid)
 
   pub clause-ends : (s ≤ t) × (t ≤ length book)
   clause-ends =

@@ -2,6 +2,7 @@ use Prim.Native.Nat.{_+_}
 use native.Mathlib.Omega.{arith}
 use mathlib.Core.Path.{refl, _∙_}
 use lib.ListN.{length}
+use Rattle.picking.proofs.Appends.{row-fits}
 use Rattle.applying.proofs.Lending.{solved-still}
 use Rattle.applying.proofs.Nexts.{first-within, goal-within, goal-small, row-small, head-within, clause-small, places, answer-places, goal-fit, all-fit, solved-here}
 use Rattle.applying.proofs.Applies.{few-written, ends-full, ends-many, ends-over, ready, ends-done}
@@ -13,7 +14,7 @@ pub apply-spec : {M : Type 1} → statement M
 apply-spec =
     tie.close
     (tie.spec
-    (λ c κs. let s = c .before .before .before .before .before .before .pre .0 .4 in (omega (arith, first-within _ _ _ _ _ _ _ s, goal-within _ _ _ _ _ _ _ s), row-small _ _ _ _ _ _ _ s, head-within _ _ _ _ _ _ _ s, clause-small _ _ _ _ _ _ _ s, c .before .before .before .before .before .before .pre .1 .wordsLength))
+    (λ c κs. let s = c .before .before .before .before .before .before .pre .0 .4 in (omega (arith, first-within _ _ _ _ _ _ _ s, goal-within _ _ _ _ _ _ _ s), row-small _ _ _ _ _ _ _ s, head-within _ _ _ _ _ _ _ s, clause-small _ _ _ _ _ _ _ s, c .before .before .before .before .before .before .pre .1 .wordsLength, λ x l. row-fits (s .row-in) x l .valid, λ x l. s .clause-in .fit x l .valid))
     (λ c. let s = c .before .before .before .before .before .before .before .before .before .before .pre .0 .4 in record { fits = omega (arith, first-within _ _ _ _ _ _ _ s, goal-small _ _ _ _ _ _ _ s, head-within _ _ _ _ _ _ _ s, clause-small _ _ _ _ _ _ _ s) })
     (λ c. let s = c .before .before .before .before .before .before .before .before .before .before .before .pre .0 .4 in record { fits = omega (arith, goal-small _ _ _ _ _ _ _ s, clause-small _ _ _ _ _ _ _ s) })
     (λ c κs. let q = places _ _ _ _ _ _ _ (c .before .before .before .before .before .before .before .before .before .before .before .before .before .before .pre .0 .4) _ _ (c .before .before .before .before .before .before .before .before .before .before .before .before .before .before .pre .1 .wordsLength) (c .before .before .before .before .before .before .before .before .before .before .before .before .before .before .pre .2) _ _ (c .before .before .before .before .before .before .before .build .kept .0 ∙ c .before .before .before .before .before .before .before .before .before .before .before .before .before .before .pre .1 .wordsLength) (c .before .before .before .before .before .before .before .build .ensures) (c .before .before .before .before .before .before .before .before .before .before .before .before .before .before .args .cut .goal + length (c .before .before .before .before .before .before .before .before .before .before .before .before .before .before .args .clause .now)) refl in ((record { wordsLength = (c .before .before .before .before .before .before .before .build .kept .0 ∙ c .before .before .before .before .before .before .before .before .before .before .before .before .before .before .pre .1 .wordsLength); rowsLength = c .before .before .before .before .before .before .before .before .before .before .before .before .before .before .pre .1 .rowsLength; outLength = c .before .before .before .before .before .before .before .before .before .before .before .before .before .before .pre .1 .outLength }, q .0, q .1, q .2, omega arith), (goal-fit _ _ _ _ _ _ _ (c .before .before .before .before .before .before .before .before .before .before .before .before .before .before .pre .0 .4) _ _ (c .before .before .before .before .before .before .before .before .before .before .before .before .before .before .pre .1 .wordsLength) (c .before .before .before .before .before .before .before .before .before .before .before .before .before .before .pre .2) _ _ (c .before .before .before .before .before .before .before .build .kept .0 ∙ c .before .before .before .before .before .before .before .before .before .before .before .before .before .before .pre .1 .wordsLength) (c .before .before .before .before .before .before .before .build .ensures) (c .before .before .before .before .before .before .before .before .before .before .before .before .before .before .args .cut .goal + length (c .before .before .before .before .before .before .before .before .before .before .before .before .before .before .args .clause .now)) refl, solved-here _ _ _ _ _ _ _ (c .before .before .before .before .before .before .before .before .before .before .before .before .before .before .pre .0 .4) _ _ (c .before .before .before .before .before .before .before .before .before .before .before .before .before .before .pre .1 .wordsLength) (c .before .before .before .before .before .before .before .before .before .before .before .before .before .before .pre .2) _ _ (c .before .before .before .before .before .before .before .build .kept .0 ∙ c .before .before .before .before .before .before .before .before .before .before .before .before .before .before .pre .1 .wordsLength) (c .before .before .before .before .before .before .before .build .ensures))))

@@ -9,7 +9,7 @@ try-clause-spec =
     tie.close
     (tie.spec
     (λ c. search needs)
-    (λ c κs. search needs)
+    (λ c κs. (search needs, search needs, search needs, λ x l. c .before .before .before .before .before .before .before .before .pre .1 .1 .2 .fit x l .valid))
     (λ c. search needs)
     (λ c. search needs)
     (λ c. search needs)

@@ -4,7 +4,7 @@ use lib.ListN.{length}
 use Rattle.search.specs.Next.{clause-at}
 use Rattle.trials.specs.Trying.{clause-words}
 use Rattle.picking.proofs.Picks.{placed-at, head-placed}
-use Rattle.trials.proofs.Tests.{first-part, row-short, row-long, formula-words, clause-is, clause-held, clause-ends, row-kept, lent-made, lent-formula, lent-head, lent-low, heap-end, tested}
+use Rattle.trials.proofs.Tests.{first-part, row-short, row-long, formula-words, clause-is, clause-held, clause-valid, clause-ends, row-kept, lent-made, lent-formula, lent-head, lent-low, heap-end, tested}
 use borrow.Author.Needs.{needs}
 use Rattle.trials.proofs.try_clause.Statement.{statement}
 use Rattle.trials.proofs.try_clause.Tie as tie
@@ -64,7 +64,7 @@ part-append-end : tie.Need-part-append-end
 part-append-end c = omega (arith, clause-ends (c .before .before .before .before .before .before .before .before .before .before .before .before .before .before .pre .1 .0 .1) (c .before .before .before .before .before .before .before .before .before .before .before .before .before .before .args .i) _ _ (c .before .before .before .before .before .before .before .before .before .before .before .before .before .before .pre .1 .0 .2) (c .before .before .before .before .before .before .before .before .entry .ensures .0) (c .before .entry3 .ensures .0) .1)
 
 append-requires : tie.Need-append-requires
-append-requires c κs = (omega (arith, c .before .before .before .before .before .before .before .before .before .before .before .before .before .before .before .pre .0 .0, row-short (c .before .before .before .before .before .before .before .before .before .before .before .before .before .before .before .pre .1 .1 .3), ap length (clause-is (c .before .before .before .before .before .before .before .before .before .before .before .before .before .before .before .pre .1 .0 .1) (c .before .before .before .before .before .before .before .before .before .before .before .before .before .before .before .args .i) _ _ (c .before .before .before .before .before .before .before .before .before .before .before .before .before .before .before .pre .1 .0 .2) (c .before .before .before .before .before .before .before .before .before .entry .ensures .0) (c .before .before .entry3 .ensures .0)), (clause-held (c .before .before .before .before .before .before .before .before .before .before .before .before .before .before .before .pre .1 .0 .1) (c .before .before .before .before .before .before .before .before .before .before .before .before .before .before .before .args .i) _ _ (c .before .before .before .before .before .before .before .before .before .before .before .before .before .before .before .pre .1 .0 .2) (c .before .before .before .before .before .before .before .before .before .entry .ensures .0) (c .before .before .entry3 .ensures .0)) .size), omega (arith, c .before .before .before .before .before .before .before .before .before .before .before .before .before .before .before .pre .0 .0), omega arith)
+append-requires c κs = (omega (arith, c .before .before .before .before .before .before .before .before .before .before .before .before .before .before .before .pre .0 .0, row-short (c .before .before .before .before .before .before .before .before .before .before .before .before .before .before .before .pre .1 .1 .3), ap length (clause-is (c .before .before .before .before .before .before .before .before .before .before .before .before .before .before .before .pre .1 .0 .1) (c .before .before .before .before .before .before .before .before .before .before .before .before .before .before .before .args .i) _ _ (c .before .before .before .before .before .before .before .before .before .before .before .before .before .before .before .pre .1 .0 .2) (c .before .before .before .before .before .before .before .before .before .entry .ensures .0) (c .before .before .entry3 .ensures .0)), (clause-held (c .before .before .before .before .before .before .before .before .before .before .before .before .before .before .before .pre .1 .0 .1) (c .before .before .before .before .before .before .before .before .before .before .before .before .before .before .before .args .i) _ _ (c .before .before .before .before .before .before .before .before .before .before .before .before .before .before .before .pre .1 .0 .2) (c .before .before .before .before .before .before .before .before .before .entry .ensures .0) (c .before .before .entry3 .ensures .0)) .size), omega (arith, c .before .before .before .before .before .before .before .before .before .before .before .before .before .before .before .pre .0 .0), omega arith, clause-valid (c .before .before .before .before .before .before .before .before .before .before .before .before .before .before .before .pre .1 .0 .1) (c .before .before .before .before .before .before .before .before .before .before .before .before .before .before .before .args .i) _ _ (c .before .before .before .before .before .before .before .before .before .before .before .before .before .before .before .pre .1 .0 .2) (c .before .before .before .before .before .before .before .before .before .entry .ensures .0) (c .before .before .entry3 .ensures .0))
 
 sub-try-rows : tie.Need-sub-try-rows
 sub-try-rows c = search needs

@@ -11,7 +11,7 @@ pub failing-spec : {M : Type 1} → statement M
 failing-spec =
     tie.close
     (tie.spec
-    (λ c κs. search needs)
+    (λ c κs. let k = c .before .before .before .before .before .pre in (search needs, search needs, search needs, λ x l. k .1 .1 .fit x l .valid, λ x l. k .2 .2 .fit x l .valid))
     (λ c. search needs)
     (λ c. search needs)
     (λ c. search needs)

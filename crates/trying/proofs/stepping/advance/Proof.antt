@@ -1,6 +1,7 @@
 use native.Mathlib.Omega.{arith}
 use mathlib.Core.Path.{_≡_, refl, sym as inv, ap, _∙_, subst}
 use mathlib.Core.List.{_∷_}
+use Rattle.picking.proofs.Appends.{row-fits}
 use Rattle.trying.specs.Stepping.{Shaped, Quickened}
 use Rattle.trying.proofs.Moves.{copied, row-small}
 use borrow.Author.Needs.{needs}
@@ -11,7 +12,7 @@ shape-of-requires : tie.Need-shape-of-requires
 shape-of-requires c κs = search needs
 
 append-requires : tie.Need-append-requires
-append-requires c κs = (omega (arith, row-small (c .before .before .before .before .before .before .before .before .before .pre .1 .1 .3), c .before .before .before .before .before .before .before .before .before .pre .0 .0 .wordsLength), omega (arith, c .before .before .before .before .before .before .before .before .before .pre .0 .0 .wordsLength), omega arith)
+append-requires c κs = (omega (arith, row-small (c .before .before .before .before .before .before .before .before .before .pre .1 .1 .3), c .before .before .before .before .before .before .before .before .before .pre .0 .0 .wordsLength), omega (arith, c .before .before .before .before .before .before .before .before .before .pre .0 .0 .wordsLength), omega arith, λ x l. row-fits (c .before .before .before .before .before .before .before .before .before .pre .1 .1 .3) x l .valid)
 
 on-heap-requires : tie.Need-on-heap-requires
 on-heap-requires c κs = ((record { wordsLength = c .before .before .before .before .before .before .append .kept .0 ∙ c .before .before .before .before .before .before .before .before .before .before .before .before .before .before .before .before .pre .0 .0 .wordsLength; rowsLength = c .before .before .before .before .before .before .before .before .before .before .before .before .before .before .before .before .pre .0 .0 .rowsLength; outLength = c .before .before .before .before .before .before .before .before .before .before .before .before .before .before .before .before .pre .0 .0 .outLength }, c .before .before .before .before .before .before .before .before .before .before .before .before .before .before .before .before .pre .0 .1, c .before .before .before .before .before .before .before .before .before .before .before .before .before .before .before .before .pre .0 .2), ((_, (c .before .before .before .before .before .before .before .before .before .before .before .before .before .before .before .before .pre .1 .0 .1)), (_, _, _, subst (λ w. Shaped w (c .before .before .before .before .before .before .before .before .shape-of .result) (c .before .before .before .before .before .before .before .before .before .before .before .before .before .before .before .before .pre .1 .1 .0) (c .before .before .before .before .before .before .before .before .before .before .before .before .before .before .before .before .pre .1 .1 .1) (c .before .before .before .before .before .before .before .before .before .before .before .before .before .before .before .before .pre .1 .1 .2)) (inv (copied (c .before .before .before .before .before .before .append .ensures) _ (c .before .before .before .before .before .before .before .before .shape-of .ensures .1))) (c .before .before .before .before .before .before .before .before .shape-of .ensures .0 _ _ _ (c .before .before .before .before .before .before .before .before .before .before .before .before .before .before .before .before .pre .1 .1 .3) (c .before .before .before .before .before .before .before .before .before .before .before .before .before .before .before .before .pre .1 .1 .4) (c .before .before .before .before .before .before .before .before .before .before .before .before .before .before .before .before .pre .1 .1 .5)))))
