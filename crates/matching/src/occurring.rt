@@ -19,14 +19,14 @@ pub enum Look {
 }
 
 // What is left of a row: `due` rows from the position `at` on, and so many nodes that may still be visited.
-struct Rest {
-    at: usize,
-    due: usize,
-    left: usize,
+pub struct Rest {
+    pub at: usize,
+    pub due: usize,
+    pub left: usize,
 }
 
 // What is left behind those of the row's own words that stand for one node each, and not for v. Most rows end so, and need no walk.
-fn skim(heap: &[u32], cells: &[u16], v: usize, p: usize, fuel: usize) -> Rest
+pub fn skim(heap: &[u32], cells: &[u16], v: usize, p: usize, fuel: usize) -> Rest
     requires { ⌜ Made (now heap) (now cells) × Whole (now heap) 1 p × (v < 65536) ⌝ }
     ensures { λ r. ⌜ Seeking (now (heap .entry)) (now (cells .entry)) v p fuel [] (r .left) (flat (r .at) (r .due)) ⌝ }
 {
