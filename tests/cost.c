@@ -1,5 +1,5 @@
 /* cost SHAPE SIZE STEPS: a run from a goal of so many nodes (or levels, or formulas) whose predicate no rule has (0), or that comes after one step to a goal of as many nodes
-   whose predicate no rule has (1); of formulas each takes a step. */
+   whose predicate no rule has (1); of a chain so many steps, as the budget allows. */
 #include <stddef.h>
 #include <stdlib.h>
 #include <string.h>
@@ -25,9 +25,9 @@ void *memcpy(void *restrict to, const void *restrict from, size_t length) {
     return to;
 }
 
-static uint8_t book[1024], query[PITXARGOLE_AREA], area[PITXARGOLE_AREA], instance[PITXARGOLE_AREA];
+static uint8_t book[2048], query[PITXARGOLE_AREA], area[PITXARGOLE_AREA], instance[PITXARGOLE_AREA];
 static size_t book_length, query_length;
-static unsigned steps, before;
+static unsigned steps, before, budget = 10000;
 
 /* The records of document 01. */
 static void record(uint8_t kind, unsigned number, int arity) {
@@ -160,33 +160,36 @@ static void doubled(unsigned levels) {
     formula(5, 0);
 }
 
-/* p(a), p(a), .., q by p(a): so many steps, and each leaves a goal that is shorter by one. */
-static void facts(unsigned formulas) {
-    before = steps ? formulas - 1 : 0;
-    formula(steps ? 1 : 4, 1);
-    constant(1);
-    clause(0);
-    book[book_length++] = 7;
-    goal(formulas + 1);
-    for (unsigned i = 0; i < formulas; i++) {
-        formula(1, 1);
-        constant(1);
+/* p0(a), r, r, .. by p0(X) :- p1(X), p1(X) :- p2(X) and so on: each step leaves as many formulas. */
+static void chain(unsigned formulas) {
+    budget = steps;
+    for (unsigned i = 0; i < 100; i++) {
+        formula(10 + i, 1);
+        variable(0);
+        formula(11 + i, 1);
+        variable(0);
+        clause(1);
     }
-    formula(2, 0);
+    book[book_length++] = 7;
+    goal(formulas);
+    formula(10, 1);
+    constant(1);
+    for (unsigned i = 1; i < formulas; i++) formula(3, 0);
 }
 
 int main(int words, char **word) {
     static const struct {
         const char *name;
         void (*build)(unsigned);
-    } shapes[] = {{"deep", deep}, {"wide", wide}, {"named", named}, {"joined", joined}, {"doubled", doubled}, {"facts", facts}};
+    } shapes[] = {{"deep", deep}, {"wide", wide}, {"named", named}, {"joined", joined}, {"doubled", doubled}, {"chain", chain}};
     if (words != 4) return 2;
     steps = (unsigned)atoi(word[3]);
     for (size_t i = 0; i < sizeof shapes / sizeof *shapes; i++) {
         if (strcmp(word[1], shapes[i].name)) continue;
         shapes[i].build((unsigned)atoi(word[2]));
-        uint64_t answer = pitxargole_run(10000, book, book_length, query, query_length, area, sizeof area, instance, sizeof instance);
-        return pitxargole_code(answer) == PITXARGOLE_UNKNOWN && pitxargole_steps(answer) == before + steps ? 0 : 1;
+        uint64_t answer = pitxargole_run(budget, book, book_length, query, query_length, area, sizeof area, instance, sizeof instance);
+        unsigned ends = budget == steps ? PITXARGOLE_STEPS : PITXARGOLE_UNKNOWN;
+        return pitxargole_code(answer) == ends && pitxargole_steps(answer) == before + steps ? 0 : 1;
     }
     return 2;
 }
