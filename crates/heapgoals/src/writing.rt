@@ -214,7 +214,7 @@ pub fn write_out(
     write_rows(&words[0..top], cells, levels, rows, out, s)
 }
 
-// The goal's first formula, numbered: how many words it has, or over 4,096 where the writing gave up. Where it stands there with symbols alone, as it mostly does when a save is due, there is
+// The goal's first formula, numbered: how many words it has, or over 4,096 where the writing gave up. Where it stands there with symbols alone, there is
 // nothing to follow or to number.
 pub fn write_first(
     words: &[u32],

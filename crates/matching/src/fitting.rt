@@ -2,7 +2,7 @@
 use crate::binding::bind;
 use crate::heads::Matched;
 use crate::heads::match_head;
-use crate::occurring::skim;
+use crate::occurring::is_away;
 use crate::pairs::Pairs;
 use crate::unifying::Trial;
 use crate::unifying::Tried;
@@ -26,29 +26,36 @@ fn hang_row(
     heap: &[u32],
     cells: &mut [u16],
     trail: &mut [u16],
+    levels: &mut [u16],
     t: Trial,
     v: usize,
     q: usize,
 ) -> bool
-    requires { ⌜ Made (now heap) (now cells) × Whole (now heap) 1 q × (length (now cells) ≤ 8256) × (v < length (now cells)) × (t .count < length (now trail)) ⌝ }
+    requires { ⌜ Made (now heap) (now cells) × Whole (now heap) 1 q × (length (now cells) ≤ 8256) × (v < length (now cells)) × (t .count < length (now trail)) × (t .fuel ≤ 8448) × (514 ≤ length (now levels)) ⌝ }
     ensures hung { λ r. ⌜ (r ≡ true → Bound (now (heap .entry)) (now (cells .entry)) (now (trail .entry)) t v q (now (cells .exit)) (now (trail .exit)) (t .count + 1) × Apart (now (heap .entry)) (now (cells .entry)) v q) ⌝ }
     ensures kept { λ r. ⌜ (r ≡ false → (now (cells .exit) ≡ now (cells .entry)) × (now (trail .exit) ≡ now (trail .entry))) ⌝ }
 {
     if t.base <= v {
         return false;
     }
-    let rest = skim(heap, cells, v, q, t.fuel);
-    if 0 < rest.due {
-        return false;
+    if is_away(heap, cells, levels, v, q, t.fuel) {
+        bind(cells, trail, t.base, t.count, v, q);
+        return true;
     }
-    bind(cells, trail, t.base, t.count, v, q);
-    true
+    false
 }
 
-// The last pair is often a variable of the goal and a term of the head, which becomes its value.
-fn hang_last(heap: &[u32], cells: &mut [u16], trail: &mut [u16], t: Trial, x: Pairs) -> bool
+// Whether the pairs are one, a variable of the goal and a term of the head, and that is its value now: so a rule gives a value back.
+fn hang_last(
+    heap: &[u32],
+    cells: &mut [u16],
+    trail: &mut [u16],
+    levels: &mut [u16],
+    t: Trial,
+    x: Pairs,
+) -> bool
     requires { ⌜ Made (now heap) (now cells) × ((θ : Subst) × Solved (now heap) (now cells) θ) × (length (now cells) ≤ 8256) × (0 < x .due) × Whole (now heap) (x .due) (x .p) × Whole (now heap) (x .due) (x .q) ⌝ }
-    requires { ⌜ t .count + t .fuel ≤ length (now trail) ⌝ }
+    requires { ⌜ (t .fuel ≤ 8448) × (514 ≤ length (now levels)) × (t .count + t .fuel ≤ length (now trail)) ⌝ }
     ensures hung { λ r. ⌜ (r ≡ true → (x .due ≡ 1) × (x .depth ≡ 0) × (0 < t .fuel) × Stepped (now (heap .entry)) (now (cells .entry)) (now (trail .entry)) t (x .p) (x .q) (now (cells .exit)) (now (trail .exit)) (Done (t .count + 1) (t .fuel - 1))) ⌝ }
     ensures kept { λ r. ⌜ (r ≡ false → (now (cells .exit) ≡ now (cells .entry)) × (now (trail .exit) ≡ now (trail .entry))) ⌝ }
 {
@@ -68,7 +75,7 @@ fn hang_last(heap: &[u32], cells: &mut [u16], trail: &mut [u16], t: Trial, x: Pa
     if SYMBOL <= y {
         return false;
     }
-    hang_row(heap, cells, trail, t, id(y), x.q)
+    hang_row(heap, cells, trail, levels, t, id(y), x.q)
 }
 
 // The formula's row at p and the head's at q are made equal, as by `unify`.
@@ -92,7 +99,7 @@ pub fn fit(
             if x.due == 0 {
                 return Tried::Fits(t.count, t.fuel);
             }
-            if hang_last(heap, cells, trail, t, x) {
+            if hang_last(heap, cells, trail, levels, t, x) {
                 return Tried::Fits(t.count + 1, t.fuel - 1);
             }
             unify(heap, cells, trail, levels, stack, t, p, q)

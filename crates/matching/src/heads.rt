@@ -1,5 +1,5 @@
-// A head made equal to a formula of the goal, mostly by binding variables of the head alone: then nothing is put on the trail, and there is no occur check, since a row of
-// the goal has none of these variables.
+// A head and a formula of the goal: what binding variables of the head alone makes equal. Nothing is put on the trail then, and there is no occur check, since a row of the
+// goal has none of these variables.
 use crate::pairs::Pairs;
 use crate::pairs::behind;
 use crate::pairs::entered;

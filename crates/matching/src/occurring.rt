@@ -4,12 +4,14 @@ use heap::walking::Walk;
 use heap::walking::lone;
 use heap::walking::next;
 use words::arity;
+ghost use mathlib.Core.Path.{_≡_};
+ghost use mathlib.Core.Bool.{true};
 ghost use mathlib.Core.List.{[]};
 ghost use Prim.Native.Nat.{_<_, _≤_};
 ghost use lib.ListN.{length};
 ghost use Rattle.heap.specs.Heap.{Made, Whole};
 ghost use Rattle.heap.specs.Walking.{flat};
-ghost use Rattle.matching.specs.Occurring.{Looked, Seeking};
+ghost use Rattle.matching.specs.Occurring.{Apart, Looked, Seeking};
 
 // It is not, and so many nodes may still be visited; it is; or there were too many nodes or levels to say.
 pub enum Look {
@@ -19,14 +21,14 @@ pub enum Look {
 }
 
 // What is left of a row: `due` rows from the position `at` on, and so many nodes that may still be visited.
-pub struct Rest {
-    pub at: usize,
-    pub due: usize,
-    pub left: usize,
+struct Rest {
+    at: usize,
+    due: usize,
+    left: usize,
 }
 
-// What is left behind those of the row's own words that stand for one node each, and not for v. Most rows end so, and need no walk.
-pub fn skim(heap: &[u32], cells: &[u16], v: usize, p: usize, fuel: usize) -> Rest
+// What is left behind those of the row's own words that stand for one node each, and not for v. Where nothing is, no walk is needed.
+fn skim(heap: &[u32], cells: &[u16], v: usize, p: usize, fuel: usize) -> Rest
     requires { ⌜ Made (now heap) (now cells) × Whole (now heap) 1 p × (v < 65536) ⌝ }
     ensures { λ r. ⌜ Seeking (now (heap .entry)) (now (cells .entry)) v p fuel [] (r .left) (flat (r .at) (r .due)) ⌝ }
 {
@@ -107,4 +109,28 @@ pub fn occurs(
         return Look::Away(rest.left);
     }
     seek(heap, cells, levels, v, p, fuel, rest)
+}
+
+// Whether it is known not to be.
+pub fn is_away(
+    heap: &[u32],
+    cells: &[u16],
+    levels: &mut [u16],
+    v: usize,
+    p: usize,
+    fuel: usize,
+) -> bool
+    requires { ⌜ Made (now heap) (now cells) × Whole (now heap) 1 p × (v < 65536) ⌝ }
+    requires { ⌜ (fuel ≤ 8448) × (514 ≤ length (now levels)) ⌝ }
+    ensures { λ r. ⌜ (r ≡ true → Apart (now (heap .entry)) (now (cells .entry)) v p) ⌝ }
+{
+    let rest = skim(heap, cells, v, p, fuel);
+    if rest.due == 0 {
+        return true;
+    }
+    match seek(heap, cells, levels, v, p, fuel, rest) {
+        Look::Away(_) => true,
+        Look::There => false,
+        Look::Tired => false,
+    }
 }

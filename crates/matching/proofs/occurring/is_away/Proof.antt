@@ -1,0 +1,24 @@
+use native.Mathlib.Omega.{arith}
+use mathlib.Core.Bool.{true≢false}
+use mathlib.Core.Path.{sym as inv, subst}
+use Rattle.matching.specs.Occurring.{Looked, seek-end}
+use borrow.Author.Needs.{needs}
+use Rattle.matching.proofs.occurring.is_away.Statement.{statement}
+use Rattle.matching.proofs.occurring.is_away.Tie as tie
+
+pub is-away-spec : {M : Type 1} → statement M
+is-away-spec =
+    tie.close
+    (tie.spec
+    (λ c κs. search needs)
+    (λ c. λ e. seek-end (c .before .before .skim .ensures) (omega (arith, c .if1 .taken)) .1)
+    (λ c κs. search needs)
+    (λ c. search needs)
+    (λ c. search needs)
+    (λ c. search needs)
+    (λ c. search needs)
+    (λ c. λ e. subst (Looked _ _ _ _ _) (c .enum-told .given .1) (c .before .before .before .before .seek .ensures) .1)
+    (λ c. search needs)
+    (λ c. λ e. absurd (true≢false (inv e)))
+    (λ c. search needs)
+    (λ c. λ e. absurd (true≢false (inv e))))
