@@ -152,16 +152,16 @@ fn write_node(word: u32, area: &mut [u8]) -> usize
     4
 }
 
-// The records of a formula's words, each lent the rest of the area behind the one before it.
-fn write_formula(formula: &[u32], area: &mut [u8]) -> usize
-    requires { ⌜ (length (now formula) ≤ 4096) × (4 * length (now formula) ≤ length (now area)) ⌝ }
-    ensures { λ r. ⌜ Written (wordsBytes (now (formula .entry))) (now (area .entry)) (now (area .exit)) r ⌝ }
+// The records of words, each lent the rest of the area behind the one before it.
+fn write_words(words: &[u32], area: &mut [u8]) -> usize
+    requires { ⌜ (length (now words) ≤ 4096) × (4 * length (now words) ≤ length (now area)) ⌝ }
+    ensures { λ r. ⌜ Written (wordsBytes (now (words .entry))) (now (area .entry)) (now (area .exit)) r ⌝ }
 {
     let mut written = 0;
     let mut i = 0;
-    while i < formula.len() {
+    while i < words.len() {
         let rest = &mut area[written..];
-        let n = write_node(formula[i], rest);
+        let n = write_node(words[i], rest);
         written += n;
         i += 1;
     }
@@ -169,7 +169,7 @@ fn write_formula(formula: &[u32], area: &mut [u8]) -> usize
 }
 
 // Writes the image of the goal that words hold, and answers how many bytes it is. "Each formula is written from the
-// byte where the one before it ended."
+// byte where the one before it ended", as its words stand: so where one ends need not be found.
 pub fn write_goal(words: &[u32], formulas: usize, area: &mut [u8]) -> usize
     requires { ⌜ ((g : Goal) × Writable (now words) formulas g) ⌝ }
     requires { ⌜ 16387 ≤ length (now area) ⌝ }
@@ -178,15 +178,7 @@ pub fn write_goal(words: &[u32], formulas: usize, area: &mut [u8]) -> usize
     area[0] = 6;
     area[1] = (formulas / 256) as u8;
     area[2] = (formulas % 256) as u8;
-    let mut written = 3;
-    let mut from = 0;
-    while from < words.len() {
-        let end = formula_end(words, from);
-        let formula = &words[from..end];
-        let rest = &mut area[written..];
-        let bytes = write_formula(formula, rest);
-        written += bytes;
-        from = end;
-    }
-    written
+    let rest = &mut area[3..];
+    let bytes = write_words(words, rest);
+    3 + bytes
 }
