@@ -5,29 +5,22 @@ use native.Mathlib.Nat.{add-zero}
 use mathlib.Core.Path.{_≡_, sym as inv, ap, _∙_}
 use mathlib.Core.List.{List, [], _∷_, _++_}
 use lib.ListN.{length, getD, drop, set}
-use lib.Dec.{lit≤}
 use native.Mathlib.Decide.{decLt}
-use Rattle.terms.specs.Node.{constant, compound, predicate, Node, var, sym, Expr}
+use Rattle.terms.specs.Node.{Expr}
 use Rattle.search.specs.Next as Next
 use Rattle.search.specs.Room.{nodes}
 use Rattle.words.specs.Flat.{flat, flat-size}
 use Rattle.words.specs.Word.{wordsOf}
 use Rattle.format.specs.declared.Record.the-variants.{Clause, End}
 use Rattle.format.specs.Reading.{bodyLength, recordAt, bookVerdict}
-use Rattle.format.specs.Format.{recordKind, encode, nodeRecord, nodeRecords, bookRecords, Bytes}
+use Rattle.format.specs.Format.{encode, nodeRecord, nodeRecords, bookRecords, Bytes}
 use Rattle.format.specs.Decode.{bookOf}
 use Rattle.format.specs.Words.{wordOf, record-word, bookWords, bookStarts, bookBodies}
-use Rattle.storage.specs.Storage.{Loaded}
+use Rattle.storage.specs.Storage.{Loaded, NodeAt}
 use Rattle.format.proofs.Lengths.{starts-length, bodies-length, words-few}
 use Rattle.format.proofs.Decoding.{bookOf-good}
 use Rattle.storage.proofs.Filling.{Filling, filling-start, filling-length, filling-room, filling-done, filling-next}
-use Rattle.storage.proofs.Loading.{front}
-
-node-kind : (x : Node) → recordKind (nodeRecord x) ≤ 4
-node-kind (var v) = lit≤ tt
-node-kind (sym (constant c)) = lit≤ tt
-node-kind (sym (compound f n)) = lit≤ tt
-node-kind (sym (predicate p n)) = lit≤ tt
+use Rattle.storage.proofs.Loading.{front, node-high, node-at}
 
 -- What is left
 
@@ -104,7 +97,7 @@ module _ {book before words before′ starts before″ bodies : List ℕ} {n k a
   Here e b = Ahead book before words before′ starts before″ bodies n k at e b
 
   record BookNode : Type 0 where
-    body : at + bodyLength (getD book at 0) < length book
+    here : NodeAt book at
     room : n < length words
     next : BookLoading book before (set words n (wordOf (recordAt book at (getD book at 0)))) before′ starts before″ bodies (n + 1) k (at + 1 + bodyLength (getD book at 0))
 
@@ -119,7 +112,7 @@ module _ {book before words before′ starts before″ bodies : List ℕ} {n k a
           let more : n + length (x ∷ e) ≡ n + 1 + length e = omega arith in
           let m = a .few in
           record {
-            body = f .body;
+            here = node-at x f;
             room = filling-room (a .nodes);
             next = ahead-loading {e = e} {b = b} record {
               image = f .later;
@@ -144,7 +137,7 @@ module _ {book before words before′ starts before″ bodies : List ℕ} {n k a
     where
       go : (e : Expr) (b : Next.Book) → Here e b → BookClause
       go [] [] a = absurd (omega (arith, front book at End [] (a .image) .kind))
-      go (x ∷ e) b a = absurd (omega (arith, front book at (nodeRecord x) (nodeRecords e ++ bookRecords b) (a .image) .kind, node-kind x))
+      go (x ∷ e) b a = absurd (omega (arith, node-high x (front book at (nodeRecord x) (nodeRecords e ++ bookRecords b) (a .image))))
       go [] (c ∷ b) a =
           let f = front book at (Clause (length (c .body))) (nodeRecords (flat (c .head ∷ c .body)) ++ bookRecords b) (a .image) in
           let k′ = f .kind in
@@ -168,7 +161,10 @@ module _ {book before words before′ starts before″ bodies : List ℕ} {n k a
           }
 
   pub book-body : getD book at 0 < 7 → at + bodyLength (getD book at 0) < length book
-  book-body q = elim (decLt 4 (getD book at 0)) [ yes h ↦ book-clause h q .body | no h ↦ book-node (omega arith) .body ]
+  book-body q = elim (decLt 4 (getD book at 0)) [ yes h ↦ book-clause h q .body | no h ↦ book-node (omega arith) .here .body ]
+
+  pub book-at : getD book at 0 ≤ 4 → NodeAt book at
+  book-at q = book-node q .here
 
   pub book-room : getD book at 0 ≤ 4 → n < length words
   book-room q = book-node q .room
@@ -201,7 +197,7 @@ module _ {book before words before′ starts before″ bodies : List ℕ} {n k a
   book-finish q = go (l .e) (l .b) (l .ahead)
     where
       go : (e : Expr) (b : Next.Book) → Here e b → BookEnd
-      go (x ∷ e) b a = absurd (omega (arith, front book at (nodeRecord x) (nodeRecords e ++ bookRecords b) (a .image) .kind, node-kind x))
+      go (x ∷ e) b a = absurd (omega (arith, node-high x (front book at (nodeRecord x) (nodeRecords e ++ bookRecords b) (a .image))))
       go [] (c ∷ b) a = absurd (omega (arith, front book at (Clause (length (c .body))) (nodeRecords (flat (c .head ∷ c .body)) ++ bookRecords b) (a .image) .kind))
       go [] [] a =
           let w = filling-done (a .nodes) in
@@ -222,4 +218,4 @@ module _ {book before words before′ starts before″ bodies : List ℕ} {n k a
   pub book-end : {starts′ : List ℕ} → 7 ≤ getD book at 0 → starts′ ≡ set starts k n → Loaded (bookOf book) before words before′ starts′ before″ bodies k
   book-end q e = rw e (book-finish q .done)
 
-pub ruleset book-loading = (book-body, book-room, clause-room, clause-room′, clause-body, book-next, clause-next, book-room′, book-end)
+pub ruleset book-loading = (book-body, book-at, book-room, clause-room, clause-room′, clause-body, book-next, clause-next, book-room′, book-end)

@@ -1,12 +1,13 @@
 -- The record at the front of what is left of an image; and where the loading of a goal stands between two records.
-use Prim.Native.Nat.{ℕ, _+_, _≤_, _<_}
+use Prim.Native.Nat.{ℕ, zero, suc, _+_, _*_, _≤_, _<_}
 use native.Mathlib.Omega.{arith}
 use mathlib.Core.Path.{_≡_, refl, sym as inv, ap}
 use mathlib.Core.List.{List, [], _∷_}
+use lib.Dec.{lit≤}
 use lib.ListN.{length, getD, drop, set, length-drop}
-use Rattle.terms.specs.Node.{Expr}
+use Rattle.terms.specs.Node.{constant, compound, predicate, Node, var, sym, Expr}
 use Rattle.words.specs.Flat.{flat, flat-size}
-use Rattle.words.specs.Word.{wordsOf}
+use Rattle.words.specs.Word.{word, wordsOf}
 use Rattle.words.specs.PackLaws.{words-length}
 use Rattle.format.specs.declared.Record.{Record}
 use Rattle.format.specs.declared.Record.the-variants.{Goal}
@@ -14,7 +15,7 @@ use Rattle.format.specs.Reading.{bodyLength, numberAt, recordAt, Askable}
 use Rattle.format.specs.Format.{recordKind, encode, nodeRecord, nodeRecords, Bytes}
 use Rattle.format.specs.Decode.{goalOf}
 use Rattle.format.specs.Words.{wordOf, record-word, goalWords}
-use Rattle.storage.specs.Storage.{Written}
+use Rattle.storage.specs.Storage.{Written, NodeAt}
 use Rattle.format.proofs.Encoded.{encoded}
 use Rattle.format.proofs.Decoding.{goalOf-good}
 use Rattle.storage.proofs.Filling.{Filling, filling-start, filling-length, filling-room, filling-done, filling-next}
@@ -32,6 +33,61 @@ front s at r rs e =
     let b = encoded s at r (encode rs) e in
     let k = b .body in
     record { kind = b .kind; here = omega arith; body = rw (b .kind) (omega arith); item = rw (b .kind) (b .item); later = rw (b .kind) (b .later) }
+
+-- The records of nodes
+
+node-kind : (x : Node) → (1 ≤ recordKind (nodeRecord x)) × (recordKind (nodeRecord x) ≤ 4)
+node-kind (var v) = (lit≤ tt, lit≤ tt)
+node-kind (sym (constant c)) = (lit≤ tt, lit≤ tt)
+node-kind (sym (compound f n)) = (lit≤ tt, lit≤ tt)
+node-kind (sym (predicate p n)) = (lit≤ tt, lit≤ tt)
+
+pub node-high : {s : List ℕ} {at : ℕ} (x : Node) {rs : List Record} → Front s at (nodeRecord x) rs → getD s at 0 ≤ 4
+node-high x f = omega (arith, f .kind, node-kind x)
+
+pub node-at : {s : List ℕ} {at : ℕ} (x : Node) {rs : List Record} → Front s at (nodeRecord x) rs → NodeAt s at
+node-at x f = record { body = f .body; low = omega (arith, f .kind, node-kind x); high = node-high x f }
+
+body-some : (k : ℕ) → 1 ≤ k → k ≤ 4 → 2 ≤ bodyLength k
+unfolding bodyLength
+body-some zero l h = absurd (omega arith)
+body-some (suc zero) l h = lit≤ tt
+body-some (suc (suc zero)) l h = lit≤ tt
+body-some (suc (suc (suc zero))) l h = lit≤ tt
+body-some (suc (suc (suc (suc zero)))) l h = lit≤ tt
+body-some (suc (suc (suc (suc (suc k))))) l h = absurd (omega arith)
+
+body-led : (k : ℕ) → 2 < k → k ≤ 4 → bodyLength k ≡ 3
+unfolding bodyLength
+body-led zero l h = absurd (omega arith)
+body-led (suc zero) l h = absurd (omega arith)
+body-led (suc (suc zero)) l h = absurd (omega arith)
+body-led (suc (suc (suc zero))) l h = refl
+body-led (suc (suc (suc (suc zero)))) l h = refl
+body-led (suc (suc (suc (suc (suc k))))) l h = absurd (omega arith)
+
+pub number-inside : {s : List ℕ} {at : ℕ} → NodeAt s at → at + 1 + 1 < length s
+number-inside {s} {at} n = omega (arith, n .body, body-some (getD s at 0) (n .low) (n .high))
+
+pub arity-inside : {s : List ℕ} {at : ℕ} → NodeAt s at → 2 < getD s at 0 → at + 3 < length s
+arity-inside {s} {at} n l = omega (arith, n .body, body-led (getD s at 0) l (n .high))
+
+-- a word is its record's bytes in another order
+pub word-bare : (s : List ℕ) (at k : ℕ) → 1 ≤ k → k ≤ 2 → wordOf (recordAt s at k) ≡ k * 0x100_0000 + numberAt s (at + 1)
+unfolding recordAt wordOf word
+word-bare s at zero l h = absurd (omega arith)
+word-bare s at (suc zero) l h = omega arith
+word-bare s at (suc (suc zero)) l h = omega arith
+word-bare s at (suc (suc (suc k))) l h = absurd (omega arith)
+
+pub word-led : (s : List ℕ) (at k : ℕ) → 2 < k → k ≤ 4 → wordOf (recordAt s at k) ≡ k * 0x100_0000 + numberAt s (at + 1) + getD s (at + 3) 0 * 0x1_0000
+unfolding recordAt wordOf word
+word-led s at zero l h = absurd (omega arith)
+word-led s at (suc zero) l h = absurd (omega arith)
+word-led s at (suc (suc zero)) l h = absurd (omega arith)
+word-led s at (suc (suc (suc zero))) l h = omega arith
+word-led s at (suc (suc (suc (suc zero)))) l h = omega arith
+word-led s at (suc (suc (suc (suc (suc k))))) l h = absurd (omega arith)
 
 -- of the query's nodes, those of `rest` are still to be written
 pub record GoalLoading (query before words : List ℕ) (n at : ℕ) : Type 0 where
@@ -66,7 +122,7 @@ goal-count query bytes z =
 module _ {query before words : List ℕ} {n at : ℕ} (g : GoalLoading query before words n at) where
   -- the next node
   record GoalNode : Type 0 where
-    body : at + bodyLength (getD query at 0) < length query
+    here : NodeAt query at
     room : n < length words
     next : GoalLoading query before (set words n (wordOf (recordAt query at (getD query at 0)))) (n + 1) (at + 1 + bodyLength (getD query at 0))
 
@@ -79,13 +135,16 @@ module _ {query before words : List ℕ} {n at : ℕ} (g : GoalLoading query bef
           let b = front query at (nodeRecord x) (nodeRecords e) i in
           let m = filling-next f in
           record {
-            body = b .body;
+            here = node-at x b;
             room = filling-room f;
             next = record { rest = e; image = b .later; fill = rw (b .item, record-word x) m; few = omega arith; kept = rw (b .item, record-word x) (filling-length m) };
           }
 
   pub goal-body : at < length query → at + bodyLength (getD query at 0) < length query
-  goal-body h = goal-node h .body
+  goal-body h = goal-node h .here .body
+
+  pub goal-at : at < length query → NodeAt query at
+  goal-at h = goal-node h .here
 
   pub goal-room : at < length query → n < length words
   goal-room h = goal-node h .room
@@ -101,4 +160,4 @@ module _ {query before words : List ℕ} {n at : ℕ} (g : GoalLoading query bef
       go [] i f = filling-done f
       go (x ∷ e) i f = absurd (omega (arith, front query at (nodeRecord x) (nodeRecords e) i .here))
 
-pub ruleset goal-loading = (goal-body, goal-room, goal-next, goal-end)
+pub ruleset goal-loading = (goal-body, goal-at, goal-room, goal-next, goal-end)

@@ -1,14 +1,15 @@
 -- What the functions over words ask of their storage, and what they leave in it.
-use Prim.Native.Nat.{ℕ, _+_, _≤_}
+use Prim.Native.Nat.{ℕ, _+_, _≤_, _<_}
 use mathlib.Core.Path.{_≡_}
 use mathlib.Core.List.{List, _∷_, _++_}
-use lib.ListN.{length, drop}
+use lib.ListN.{length, getD, drop}
 use Rattle.terms.specs.Node.{Expr}
 use Rattle.terms.specs.Row.{Row, Formulas}
 use Rattle.search.specs.Next as Next
 use Rattle.search.specs.Room.{nodes}
 use Rattle.words.specs.Flat.{flat}
 use Rattle.words.specs.Word.{wordsOf, AllNarrow}
+use Rattle.format.specs.Reading.{bodyLength}
 use Rattle.format.specs.Format.{GoodBook}
 use Rattle.format.specs.Words.{goalWords, bookWords, bookStarts, bookBodies}
 
@@ -16,6 +17,12 @@ use Rattle.format.specs.Words.{goalWords, bookWords, bookStarts, bookBodies}
 pub record Written (new before after : List ℕ) (r : ℕ) : Type 0 where
   pub count : r ≡ length new
   pub holds : after ≡ new ++ drop r before
+
+-- the record of a node stands at a place, all of it
+pub record NodeAt (s : List ℕ) (at : ℕ) : Type 0 where
+  pub body : at + bodyLength (getD s at 0) < length s
+  pub low : 1 ≤ getD s at 0
+  pub high : getD s at 0 ≤ 4
 
 -- `load_book` leaves the words of the book, where each clause's start, and how many formulas each body has; r clauses
 pub record Loaded (b : Next.Book) (words words′ starts starts′ bodies bodies′ : List ℕ) (r : ℕ) : Type 0 where

@@ -1,8 +1,6 @@
 // Books and goals as words, one to a node, in lent storage; and a goal's words written as its image.
-use format::Record;
 use records::record::next_at;
 use records::record::number_at;
-use records::record::record_at;
 use words::arity;
 ghost use mathlib.Core.Path.{_≡_};
 ghost use Prim.Native.Nat.{_+_, _*_, _<_, _≤_};
@@ -10,33 +8,23 @@ ghost use mathlib.Core.List.{_++_};
 ghost use lib.ListN.{length, getD, drop};
 ghost use Rattle.terms.specs.Node.{Expr};
 ghost use Rattle.search.specs.Next.{Goal, Book};
-ghost use Rattle.format.specs.Reading.{bodyLength, recordAt, bookVerdict, Askable};
+ghost use Rattle.format.specs.Reading.{recordAt, bookVerdict, Askable};
 ghost use Rattle.format.specs.Format.{encodeGoal};
 ghost use Rattle.format.specs.Decode.{bookOf, goalOf};
 ghost use Rattle.format.specs.Words.{wordOf, goalWords, bookHeads, wordBytes, wordsBytes};
-ghost use Rattle.storage.specs.Storage.{Written, Loaded, Stored, FormulaAt, Writable};
+ghost use Rattle.storage.specs.Storage.{Written, Loaded, Stored, FormulaAt, Writable, NodeAt};
 
-// A node as one word: its kind, its arity and its number.
-fn word(item: Record) -> u32
-    ensures { λ r. ⌜ r ≡ wordOf item ⌝ }
-{
-    match item {
-        Record::Variable(v) => 0x100_0000 + v as u32,
-        Record::Constant(c) => 0x200_0000 + c as u32,
-        Record::Compound(f, arity) => 0x300_0000 + arity as u32 * 0x1_0000 + f as u32,
-        Record::Formula(p, arity) => 0x400_0000 + arity as u32 * 0x1_0000 + p as u32,
-        Record::Clause(_) => 0,
-        Record::Goal(_) => 0,
-        Record::End => 0,
-    }
-}
-
-// The word of the record at a place.
+// The word of the node's record at a place: its kind, its arity and its number, which are its bytes in another order.
 fn word_at(bytes: &[u8], at: usize) -> u32
-    requires { ⌜ at + bodyLength (getD (now bytes) at 0) < length (now bytes) ⌝ }
+    requires { ⌜ NodeAt (now bytes) at ⌝ }
     ensures { λ r. ⌜ r ≡ wordOf (recordAt (now (bytes .entry)) at (getD (now (bytes .entry)) at 0)) ⌝ }
 {
-    word(record_at(bytes, at, bytes[at]))
+    let kind = bytes[at];
+    let bare = kind as u32 * 0x100_0000 + number_at(bytes, at + 1) as u32;
+    if kind <= 2 {
+        return bare;
+    }
+    bare + bytes[at + 3] as u32 * 0x1_0000
 }
 
 // How many formulas a good query has.
