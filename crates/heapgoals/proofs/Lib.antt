@@ -3,5 +3,6 @@ mod Clears
 mod Counts
 mod Stands
 mod Tells
+mod Leads
 mod Shows
 mod Outs

@@ -1,13 +1,14 @@
 // Whether what a row stands for is certainly another formula than a saved one.
 use heap::SYMBOL;
+use heap::follow;
 use heap::walking::DEEPEST;
 use heap::walking::Walk;
 use heap::walking::next;
+use words::arity;
 use words::word;
 ghost use mathlib.Core.Path.{_≡_};
 ghost use mathlib.Core.Bool.{true};
-ghost use mathlib.Core.List.{List};
-ghost use Prim.Native.Nat.{ℕ, _≤_};
+ghost use Prim.Native.Nat.{_≤_};
 ghost use lib.ListN.{length, take};
 ghost use Rattle.words.specs.Word.{Valid, Valids};
 ghost use Rattle.heap.specs.Heap.{Made, Whole};
@@ -24,19 +25,27 @@ fn parted(u: u32, v: u32) -> bool
     u != v
 }
 
-// Whether a row begins with another symbol than what is saved: so most are told apart, without a walk.
-fn begins_otherwise(heap: &[u32], at: usize, saved: &[u32], kept: usize) -> bool
-    requires { ⌜ Valids (now heap) × Whole (now heap) 1 at × Valids (take kept (now saved)) × (kept ≤ length (now saved)) ⌝ }
-    ensures { λ r. ⌜ (r ≡ true → (cells : List ℕ) → Other (now (heap .entry)) cells at (now (saved .entry)) kept) ⌝ }
+// Down the first arguments, where no level is kept: so most are told apart without a walk.
+fn leads_otherwise(heap: &[u32], cells: &[u16], at: usize, saved: &[u32], kept: usize) -> bool
+    requires { ⌜ Made (now heap) (now cells) × Whole (now heap) 1 at ⌝ }
+    requires { ⌜ Valids (take kept (now saved)) × (kept ≤ length (now saved)) ⌝ }
+    ensures { λ r. ⌜ (r ≡ true → Other (now (heap .entry)) (now (cells .entry)) at (now (saved .entry)) kept) ⌝ }
 {
-    if kept == 0 {
-        return false;
+    let mut p = at;
+    let mut i = 0;
+    while i < kept {
+        let q = follow(heap, cells, p);
+        let u = word(heap, q);
+        if parted(u, word(saved, i)) {
+            return true;
+        }
+        if arity(u) == 0 {
+            return false;
+        }
+        p = q + 1;
+        i += 1;
     }
-    let u = word(heap, at);
-    if u < SYMBOL {
-        return false;
-    }
-    u != word(saved, 0)
+    true
 }
 
 // Node by node.
@@ -88,7 +97,7 @@ pub fn differs(
     requires { ⌜ Valids (take kept (now saved)) × (kept ≤ length (now saved)) ⌝ }
     ensures { λ r. ⌜ (r ≡ true → Other (now (heap .entry)) (now (cells .entry)) at (now (saved .entry)) kept) ⌝ }
 {
-    if begins_otherwise(heap, at, saved, kept) {
+    if leads_otherwise(heap, cells, at, saved, kept) {
         return true;
     }
     differs_within(heap, cells, levels, at, saved, kept)
