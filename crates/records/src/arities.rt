@@ -11,7 +11,7 @@ ghost use Rattle.format.specs.Reading.{bodyLength, recordAt, inRange};
 ghost use Rattle.format.specs.Arities.{keeps, meets, recalled};
 
 // Whether what is remembered of a formula's predicate number, if it was met, is this arity.
-fn same(met: u8, arity: u8) -> bool
+pub fn same(met: u8, arity: u8) -> bool
     ensures { λ r. ⌜ r ≡ (eqb met 0 || eqb met (arity + 1)) ⌝ }
 {
     if met == 0 {
