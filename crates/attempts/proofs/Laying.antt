@@ -161,7 +161,7 @@ module _ {words cells levels : List ℕ} {s : Standing} {f : Expr} {g a : Goal} 
       )
 
   pub tested : (words′ cells′ tables : List ℕ) (r : Attempt) → take (s .top + length clause) words′ ≡ whole → Attempted whole cells s cells′ tables r → Tested f c heap clause words′ cells s cells′ tables r
-  tested words′ cells′ tables (Fits-now count) e y = (let (θ′, s′) = y .more .solved (h .meaning) whole-solved in meets-there (y .more) s′, record { front = e; fitted = y })
+  tested words′ cells′ tables (Fits-now count size) e (y, w) = (let (θ′, s′) = y .more .solved (h .meaning) whole-solved in meets-there (y .more) s′, record { front = e; fitted = y }, w)
   tested words′ cells′ tables Clash e y = (none-there (y .1), y .0)
   tested words′ cells′ tables Tired e y = y
 

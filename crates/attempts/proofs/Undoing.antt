@@ -9,6 +9,8 @@ use lib.ListN.{length, take, drop, length-drop, List·getD-append}
 use lib.Seq.{ext-getD, getD-take, length-take-le, take-at, drop-at}
 use borrow.Rule.Slice.PartMut.{putMid, same-len-mid}
 use Rattle.heap.specs.Heap.{bound}
+use Rattle.bounds.specs.Sizing.{Weighed}
+use Rattle.bounds.specs.declared.Size.{Size}
 use Rattle.matching.specs.Binding.{Trailed, trail-none}
 use Rattle.matching.specs.Unifying.{Begun, Unseen, Trail-kept}
 use Rattle.matching.specs.declared.unifying.Trial.{Trial}
@@ -50,6 +52,10 @@ pub trail-back : (tables now : List ℕ) → length tables ≡ 30464 → length 
 trail-back tables now l e =
     ap (take 8448) (drop-at (take 16512 tables) (now ++ drop 8448 (drop 16512 tables)) 16512 (length-take-le 16512 tables (omega (arith, l))))
     ∙ take-at now (drop 8448 (drop 16512 tables)) 8448 (e ∙ trail-long tables l)
+
+-- what was weighed with the part is weighed with the whole
+pub weighed-back : {heap cells now whole : List ℕ} {count : ℕ} {size : Size} → whole ≡ now → Weighed heap cells now count size → Weighed heap cells whole count size
+weighed-back {heap} {cells} {count = count} {size} is w = subst (λ l. Weighed heap cells l count size) (inv is) w
 
 module _ {heap before : List ℕ} {s : Standing} (x : Set-up heap before s) (tables cells now tables′ : List ℕ) (count : ℕ) (is : trail tables′ ≡ now) (t : Trial) (b : Starts s t) (k : Trail-kept before (trail tables) t cells now count) (unseen : Unseen heap before cells) where
   kept : Trail-kept before (trail tables) (start s (b .0)) cells now count

@@ -2,12 +2,13 @@
 use crate::facts::is_given;
 use crate::passing::hopeful;
 use crate::passing::lead;
+use bounds::Size;
 use heapgoals::Standing;
 use heapgoals::clear;
 use matching::binding::undo;
+use matching::fitting::Fitted;
 use matching::fitting::fit;
 use matching::unifying::Trial;
-use matching::unifying::Tried;
 use picking::append;
 use words::lists::find;
 use words::lists::find_next;
@@ -31,9 +32,10 @@ ghost use Rattle.attempts.specs.Trying.{Set-up, Undoable, Attempted, Tes
 pub mod passing; // clauses that the goal's first argument passes over
 pub mod facts; // facts that need no trial
 
-// The two are equal now, with so many goal variables on the trail; or they can't be made equal; or nothing is known. Only where they are equal is more bound than before.
+// The two are equal now, with so many goal variables on the trail, each of which stands for so much at most, where that is known; or they can't be made equal; or nothing is known. Only where
+// they are equal is more bound than before.
 pub enum Attempt {
-    Fits(usize),
+    Fits(usize, Size),
     Clash,
     Tired,
 }
@@ -83,12 +85,12 @@ fn try_rows(
         s.at,
         s.top,
     ) {
-        Tried::Fits(count, _) => Attempt::Fits(count),
-        Tried::Clash(count) => {
+        Fitted::Fits(count, size) => Attempt::Fits(count, size),
+        Fitted::Clash(count) => {
             release(cells, rows, s.base, count);
             Attempt::Clash
         }
-        Tried::Tired(count) => {
+        Fitted::Tired(count) => {
             release(cells, rows, s.base, count);
             Attempt::Tired
         }
@@ -117,9 +119,9 @@ fn try_clause(
     try_rows(&words[0..r], cells, rows, levels, stack, s)
 }
 
-// The first clause that fits, by its number, and how many goal variables its trial has bound, or that it is a fact which stands there; or nothing is known.
+// The first clause that fits, by its number, how many goal variables its trial has bound and what each of them stands for at most; or that it is a fact which stands there; or nothing is known.
 pub enum Found {
-    Clause(usize, usize),
+    Clause(usize, usize, Size),
     Given(usize),
     Unsure,
 }
@@ -153,7 +155,7 @@ pub fn first_fit(
         let e = entry(shelf, HEAD, i);
         let t = entry(shelf, START, i + 1);
         match try_clause(&book[b..t], e - b, words, cells, rows, levels, stack, s) {
-            Attempt::Fits(count) => return Found::Clause(i, count),
+            Attempt::Fits(count, size) => return Found::Clause(i, count, size),
             Attempt::Clash => i = hopeful(book, shelf, u, x, find_next(book, shelf, u, i)),
             Attempt::Tired => return Found::Unsure,
         }

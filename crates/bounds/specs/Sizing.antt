@@ -31,3 +31,7 @@ pub record Grown (heap cells trail : List ℕ) (count limit : ℕ) (r : Size) : 
   pub low : Known r → r .nodes ≤ limit
   pub long : Known r → (i : ℕ) → i < count → (θ : Subst) → Solved heap cells θ → length (θ (getD trail i 0)) ≤ r .nodes
   pub places : Known r → (i : ℕ) → i < count → (θ : Subst) → Solved heap cells θ → places (θ (getD trail i 0)) ≤ r .variables
+
+-- so many nodes and places of variables, where it is known
+abbrev pub Weighed : List ℕ → List ℕ → List ℕ → ℕ → Size → Type 0
+Weighed heap cells trail count r = Known r → Grown heap cells trail count 4096 r

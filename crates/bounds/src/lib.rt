@@ -13,7 +13,7 @@ ghost use lib.ListN.{length};
 ghost use Rattle.words.specs.Word.{Valid, node};
 ghost use Rattle.heap.specs.Heap.{Made, Whole};
 ghost use Rattle.bounds.specs.Places.{places};
-ghost use Rattle.bounds.specs.Sizing.{Sized, Bound, Grown};
+ghost use Rattle.bounds.specs.Sizing.{Sized, Bound, Grown, Weighed};
 
 pub mod clauses; // what a clause's body adds to its head
 
@@ -26,12 +26,22 @@ pub struct Size {
 // As many nodes as are not counted, or not known.
 pub const OVER: usize = 65535;
 
-fn over() -> Size
+pub fn over() -> Size
     ensures { λ r. ⌜ (r .nodes ≡ 65535) × (r .variables ≡ 0) ⌝ }
 {
     Size {
         nodes: OVER,
         variables: 0,
+    }
+}
+
+// What a variable stands for that is not bound.
+pub fn least() -> Size
+    ensures { λ r. ⌜ r ≡ record { nodes = 1; variables = 1 } ⌝ }
+{
+    Size {
+        nodes: 1,
+        variables: 1,
     }
 }
 
@@ -124,7 +134,7 @@ fn row_size(heap: &[u32], cells: &[u16], levels: &mut [u16], p: usize, limit: us
 }
 
 // The most that a variable of the trail stands for, and 1 at least.
-pub fn growth(
+fn growth(
     heap: &[u32],
     cells: &[u16],
     levels: &mut [u16],
@@ -151,4 +161,23 @@ pub fn growth(
         i += 1;
     }
     Size { nodes, variables }
+}
+
+// The same, where a trial has not found it already.
+pub fn known_growth(
+    heap: &[u32],
+    cells: &[u16],
+    levels: &mut [u16],
+    trail: &[u16],
+    count: usize,
+    known: Size,
+) -> Size
+    requires { ⌜ Made (now heap) (now cells) × Bound (now cells) (now trail) count × Weighed (now heap) (now cells) (now trail) count known ⌝ }
+    requires { ⌜ (514 ≤ length (now levels)) × (count ≤ length (now trail)) ⌝ }
+    ensures { λ r. ⌜ Grown (now (heap .entry)) (now (cells .entry)) (now (trail .entry)) count 4096 r ⌝ }
+{
+    if known.nodes < OVER {
+        return known;
+    }
+    growth(heap, cells, levels, trail, count, 4096)
 }

@@ -115,15 +115,16 @@ module _ (t : Trial) {heap cells cells′ stack : List ℕ} {p q : ℕ} {x : Pai
 pub counted-goal : (base v n : ℕ) → v < base → n + 1 ≡ counted base v n
 counted-goal base v n l = rw (lt-ltb v base l) (omega arith)
 
--- a variable of the goal that is not bound, on a row of the head that begins with a symbol
-pub hung-so : (t : Trial) {heap cells trail : List ℕ} → Made heap cells → ((θ : Subst) × Solved heap cells θ) → t .count < length trail → (x : Pairs) → 0 < x .due → Whole heap (x .due) (x .p) → Whole heap (x .due) (x .q)
-    → {r v y w : ℕ} → Followed heap cells (x .p) r → y ≡ getD heap r 0 → y < 33554432 → v ≡ y % 65536 → w ≡ getD heap (x .q) 0 → 33554432 ≤ w
-    → {cells′ trail′ : List ℕ} → Bound heap cells trail t v (x .q) cells′ trail′ (t .count + 1) → Apart heap cells v (x .q) → Stepped heap cells trail t (x .p) (x .q) cells′ trail′ (Step.Done (t .count + 1) (t .fuel - 1))
-hung-so t {heap} {cells} {trail} made some room x due left right {r} {v} f ey low ev ew high {cells′} {trail′} bound away =
-    step-hang heap cells trail t (x .p) (x .q) made bindable (λ k. omega (arith, k, ew, high)) some room cells′ trail′ (Step.Done (t .count + 1) (t .fuel - 1)) (bound, omega arith, away)
-  where
-    kind : kindOf (getD heap r 0) ≡ 1
-    kind = omega (arith, ey, low, made .fits r (f .row .inside) .valid .low)
+-- a variable of the goal that is not bound, and a row of the head that begins with a symbol
+module _ {heap cells : List ℕ} (made : Made heap cells) (x : Pairs) (due : 0 < x .due) (left : Whole heap (x .due) (x .p)) (right : Whole heap (x .due) (x .q)) (r v y w : ℕ) (f : Followed heap cells (x .p) r)
+    (ey : y ≡ getD heap r 0) (low : y < 33554432) (ev : v ≡ y % 65536) (ew : w ≡ getD heap (x .q) 0) (high : 33554432 ≤ w) where
+  kind : kindOf (getD heap r 0) ≡ 1
+  kind = omega (arith, ey, low, made .fits r (f .row .inside) .valid .low)
 
-    bindable : Bindable heap cells (x .p) (x .q) v (x .q)
-    bindable = subst (λ n. Bindable heap cells (x .p) (x .q) n (x .q)) (ap (λ u. u % 65536) (inv ey) ∙ inv ev) (bind-left made f (symbol-here (right-inside made x due left right) (omega (arith, ew, high))) (left-row made x due left right) (right-row made x due left right) kind)
+  pub hung-bindable : Bindable heap cells (x .p) (x .q) v (x .q)
+  hung-bindable = subst (λ n. Bindable heap cells (x .p) (x .q) n (x .q)) (ap (λ u. u % 65536) (inv ey) ∙ inv ev) (bind-left made f (symbol-here (right-inside made x due left right) (omega (arith, ew, high))) (left-row made x due left right) (right-row made x due left right) kind)
+
+  pub hung-so : (t : Trial) {trail : List ℕ} → ((θ : Subst) × Solved heap cells θ) → t .count < length trail → {cells′ trail′ : List ℕ} → Bound heap cells trail t v (x .q) cells′ trail′ (t .count + 1) → Apart heap cells v (x .q)
+      → Stepped heap cells trail t (x .p) (x .q) cells′ trail′ (Step.Done (t .count + 1) (t .fuel - 1))
+  hung-so t {trail} some room {cells′} {trail′} bound away =
+      step-hang heap cells trail t (x .p) (x .q) made hung-bindable (λ k. omega (arith, k, ew, high)) some room cells′ trail′ (Step.Done (t .count + 1) (t .fuel - 1)) (bound, omega arith, away)

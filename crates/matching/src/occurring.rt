@@ -1,4 +1,8 @@
 // The occur check: whether a variable is in what a row stands for.
+use bounds::OVER;
+use bounds::Size;
+use bounds::one_if_variable;
+use bounds::over;
 use heap::walking::DEEPEST;
 use heap::walking::Walk;
 use heap::walking::lone;
@@ -11,6 +15,7 @@ ghost use Prim.Native.Nat.{_<_, _≤_};
 ghost use lib.ListN.{length};
 ghost use Rattle.heap.specs.Heap.{Made, Whole};
 ghost use Rattle.heap.specs.Walking.{flat};
+ghost use Rattle.bounds.specs.Sizing.{Known, Sized};
 ghost use Rattle.matching.specs.Occurring.{Apart, Looked, Seeking};
 
 // It is not, and so many nodes may still be visited; it is; or there were too many nodes or levels to say.
@@ -111,7 +116,37 @@ pub fn occurs(
     seek(heap, cells, levels, v, p, fuel, rest)
 }
 
-// Whether it is known not to be.
+// How large what a row stands for is, where v is not in it and each of the row's words stands for one node: so the row is gone through once for both. Not known otherwise.
+pub fn size_apart(heap: &[u32], cells: &[u16], v: usize, p: usize) -> Size
+    requires { ⌜ Made (now heap) (now cells) × Whole (now heap) 1 p × (v < 65536) ⌝ }
+    ensures sized { λ r. ⌜ Sized (now (heap .entry)) (now (cells .entry)) p 1 4096 r ⌝ }
+    ensures apart { λ r. ⌜ (Known r → Apart (now (heap .entry)) (now (cells .entry)) v p) ⌝ }
+{
+    let sought = 0x100_0000 + v as u32;
+    let mut nodes = 0;
+    let mut variables = 0;
+    let mut due = 1;
+    let mut at = p;
+    while 0 < due {
+        if nodes == 4096 {
+            return over();
+        }
+        let u = lone(heap, cells, at);
+        if u == 0 {
+            return over();
+        }
+        if u == sought {
+            return over();
+        }
+        nodes += 1;
+        variables += one_if_variable(u);
+        due = due - 1 + arity(u);
+        at += 1;
+    }
+    Size { nodes, variables }
+}
+
+// Whether it is known not to be, by the size that was found or by a walk.
 pub fn is_away(
     heap: &[u32],
     cells: &[u16],
@@ -119,16 +154,16 @@ pub fn is_away(
     v: usize,
     p: usize,
     fuel: usize,
+    size: Size,
 ) -> bool
-    requires { ⌜ Made (now heap) (now cells) × Whole (now heap) 1 p × (v < 65536) ⌝ }
+    requires { ⌜ Made (now heap) (now cells) × Whole (now heap) 1 p × (v < 65536) × (Known size → Apart (now heap) (now cells) v p) ⌝ }
     requires { ⌜ (fuel ≤ 8448) × (514 ≤ length (now levels)) ⌝ }
     ensures { λ r. ⌜ (r ≡ true → Apart (now (heap .entry)) (now (cells .entry)) v p) ⌝ }
 {
-    let rest = skim(heap, cells, v, p, fuel);
-    if rest.due == 0 {
+    if size.nodes < OVER {
         return true;
     }
-    match seek(heap, cells, levels, v, p, fuel, rest) {
+    match occurs(heap, cells, levels, v, p, fuel) {
         Look::Away(_) => true,
         Look::There => false,
         Look::Tired => false,

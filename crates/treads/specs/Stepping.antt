@@ -14,7 +14,7 @@ use Rattle.search.specs.Answer.{small, next-answer}
 use Rattle.words.specs.Word.{Fits}
 use Rattle.words.specs.Held.{Placed}
 use Rattle.applying.specs.Applying.{Onward}
-use Rattle.heap.specs.Heap.{Solved}
+use Rattle.heap.specs.Heap.{rows, Whole, Solved}
 use Rattle.heap.specs.Walking.{Ready}
 use Rattle.heap.specs.declared.walking.Walk.{Walk}
 use Rattle.bounds.specs.Places.{places-all}
@@ -60,6 +60,12 @@ pub record Bounded (heap cells levels : List ℕ) (s : Standing) (c : Span) (r :
   pub goal-room : r .nodes ≤ 4096
   pub answer-room : r .found ≤ 4096
   pub places-room : r .variables ≤ 8192
+
+-- the rows behind the first formula's stand at r
+pub record Behind-first (heap : List ℕ) (s : Standing) (r : ℕ) : Type 0 where
+  pub whole : Whole heap (s .due - 1) r
+  pub inside : r ≤ length heap
+  pub same : listed heap (s .due - 1) r ≡ listed heap (s .due - 1) (s .at + length (rows heap 1 (s .at)))
 
 -- the k rows at p come before those behind the first formula's
 pub record Entered (heap levels : List ℕ) (s : Standing) (p k : ℕ) (levels′ : List ℕ) (w : Walk) : Type 0 where

@@ -6,6 +6,7 @@ use attempts::Found;
 use attempts::first_fit;
 use attempts::release;
 use bounds::OVER;
+use bounds::Size;
 use figures::figure_at;
 use heap::past;
 use heap::walking::Walk;
@@ -29,12 +30,24 @@ ghost use Rattle.heap.specs.Heap.{Whole};
 ghost use Rattle.heap.specs.Walking.{Levels};
 ghost use Rattle.figures.specs.Figures.{Figure-of, Figured};
 ghost use Rattle.heapgoals.specs.Holding.{Holds};
-ghost use Rattle.trials.specs.Trying.{clause-words};
+ghost use Rattle.bounds.specs.Sizing.{Weighed};
+ghost use Rattle.trials.specs.Trying.{trail, clause-words};
 ghost use Rattle.attempts.specs.Facts.{Bare};
 ghost use Rattle.treads.specs.Adding.{span-words, head-long};
-ghost use Rattle.treads.specs.Stepping.{Under-way, Entered, Went, Treads};
+ghost use Rattle.treads.specs.Stepping.{Under-way, Behind-first, Entered, Went, Treads};
 
 pub mod sizing; // how large goal and answer are at most
+
+// Where the goal's rows behind its first formula stand. Most often there are none in the same place, and the formula is not gone through for its end.
+fn behind_first(heap: &[u32], s: Standing) -> usize
+    requires { ⌜ Valids (now heap) × (length (now heap) < 65536) × Whole (now heap) (s .due) (s .at) × (0 < s .due) ⌝ }
+    ensures { λ r. ⌜ Behind-first (now (heap .entry)) s r ⌝ }
+{
+    if s.due == 1 {
+        return s.at;
+    }
+    past(heap, s.at)
+}
 
 // The k rows of a body in the place of the first formula.
 fn entered(heap: &[u32], levels: &mut [u16], s: Standing, body: usize, k: usize) -> Walk
@@ -42,7 +55,7 @@ fn entered(heap: &[u32], levels: &mut [u16], s: Standing, body: usize, k: usize)
     requires { ⌜ Levels (now heap) (now levels) (s .depth) × (s .depth < 256) × (length (now levels) ≡ 1028) ⌝ }
     ensures { λ w. ⌜ Entered (now (heap .entry)) (now (levels .entry)) s body k (now (levels .exit)) w ⌝ }
 {
-    let rest = past(heap, s.at);
+    let rest = behind_first(heap, s);
     let due = s.due - 1;
     let depth = s.depth;
     if k == 0 {
@@ -76,7 +89,7 @@ pub enum Tread {
     Goes(Standing),
 }
 
-// By the clause at c, whose trial the heap holds, with so many goal variables bound.
+// By the clause at c, whose trial the heap holds, with so many goal variables bound, each of which stands for so much at most, where that is known.
 fn go(
     heap: &[u32],
     cells: &[u16],
@@ -85,15 +98,16 @@ fn go(
     s: Standing,
     c: Span,
     count: usize,
+    known: Size,
 ) -> Tread
-    requires { ⌜ ((book : List ℕ) × (words : List ℕ) × (before : List ℕ) × (f : Expr) × (g : Goal) × (a : Goal) × (d : Clause) × Under-way book words before (now levels) s c (now heap) (now cells) (now rows) count f g a d) × (length (now rows) ≡ CELLS) × (s .depth < 256) ⌝ }
+    requires { ⌜ ((book : List ℕ) × (words : List ℕ) × (before : List ℕ) × (f : Expr) × (g : Goal) × (a : Goal) × (d : Clause) × Under-way book words before (now levels) s c (now heap) (now cells) (now rows) count f g a d) × (length (now rows) ≡ CELLS) × (s .depth < 256) × Weighed (now heap) (now cells) (trail (now rows)) count known ⌝ }
     ensures { λ r. ⌜ Went (now (levels .entry)) s c (now (heap .entry)) (now (cells .entry)) (now (rows .entry)) count (now (levels .exit)) r ⌝ }
 {
     let formulas = s.formulas - 1 + c.bodies;
     if 512 < formulas {
         return Tread::Stays;
     }
-    let size = sized(heap, cells, rows, levels, s, c, count);
+    let size = sized(heap, cells, rows, levels, s, c, count, known);
     if size.nodes == OVER {
         return Tread::Stays;
     }
@@ -206,10 +220,10 @@ pub fn take_step(
     ) {
         Found::Unsure => Tread::Stays,
         Found::Given(_) => Tread::Goes(drop_first(words, levels, s)),
-        Found::Clause(i, count) => {
+        Found::Clause(i, count, known) => {
             let c = clause_at(book, shelf, &mut stack[387..1411], i);
             let end = s.top + (c.end - c.start);
-            match go(&words[0..end], cells, rows, levels, s, c, count) {
+            match go(&words[0..end], cells, rows, levels, s, c, count, known) {
                 Tread::Goes(next) => Tread::Goes(next),
                 Tread::Stays => {
                     release(cells, rows, s.base, count);

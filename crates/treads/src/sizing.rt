@@ -1,7 +1,7 @@
 // How large the next goal and answer are at most, by what the trial has bound and what the clause's body adds.
 use bounds::OVER;
 use bounds::Size;
-use bounds::growth;
+use bounds::known_growth;
 use bounds::size_of;
 use figures::Figure;
 use heapgoals::Standing;
@@ -13,7 +13,9 @@ ghost use lib.ListN.{length};
 ghost use Rattle.terms.specs.Node.{Expr};
 ghost use Rattle.search.specs.Next.{Clause, Goal};
 ghost use Rattle.words.specs.Columns.{CELLS};
+ghost use Rattle.bounds.specs.Sizing.{Weighed};
 ghost use Rattle.figures.specs.Figures.{first-of};
+ghost use Rattle.trials.specs.Trying.{trail};
 ghost use Rattle.heapgoals.specs.HoldLaws.{Fore};
 ghost use Rattle.treads.specs.Stepping.{Under-way, body-rows, Bounded};
 ghost use Rattle.treads.specs.Adding.{span-words, Led, Adds, Summed};
@@ -148,18 +150,19 @@ pub fn sized(
     s: Standing,
     c: Span,
     count: usize,
+    known: Size,
 ) -> Bounds
-    requires { ⌜ ((book : List ℕ) × (words : List ℕ) × (before : List ℕ) × (f : Expr) × (g : Goal) × (a : Goal) × (d : Clause) × Under-way book words before (now levels) s c (now heap) (now cells) (now rows) count f g a d) × (length (now rows) ≡ CELLS) ⌝ }
+    requires { ⌜ ((book : List ℕ) × (words : List ℕ) × (before : List ℕ) × (f : Expr) × (g : Goal) × (a : Goal) × (d : Clause) × Under-way book words before (now levels) s c (now heap) (now cells) (now rows) count f g a d) × (length (now rows) ≡ CELLS) × Weighed (now heap) (now cells) (trail (now rows)) count known ⌝ }
     ensures levels { λ _. ⌜ Fore (now (levels .entry)) (now (levels .exit)) ⌝ }
     ensures bounds { λ r. ⌜ ((r .nodes ≡ 65535 → ⊥) → (book words before : List ℕ) (f : Expr) (g a : Goal) (d : Clause) → Under-way book words before (now (levels .exit)) s c (now (heap .entry)) (now (cells .entry)) (now (rows .entry)) count f g a d → Bounded (now (heap .entry)) (now (cells .entry)) (now (levels .exit)) s c r) ⌝ }
 {
-    let grown = growth(
+    let grown = known_growth(
         heap,
         cells,
         &mut levels[514..1028],
         &rows[16512..24960],
         count,
-        4096,
+        known,
     );
     let more = body_adds(heap, cells, &mut levels[514..1028], s, c);
     bounded(s, more, grown)

@@ -13,7 +13,7 @@ go-spec =
     (λ c. omega (arith, c .before .before .before .before .before .pre .0 .7 .held .many))
     (λ c. let u = c .before .before .before .before .before .before .pre .0 .7 in record { fits = omega (arith, u .held .few, body-few u) })
     (λ c. fore-same)
-    (λ c κs. (c .before .before .before .before .before .before .before .before .pre .0, c .before .before .before .before .before .before .before .before .pre .1))
+    (λ c κs. (c .before .before .before .before .before .before .before .before .pre .0, c .before .before .before .before .before .before .before .before .pre .1, c .before .before .before .before .before .before .before .before .pre .3))
     (λ c. search needs)
     (λ c. c .before .before .before .before .sized .ensures .0)
     (λ c. let u = c .before .before .before .before .before .before .before .before .before .before .before .before .before .before .pre .0 .7 in omega (arith, u .placed .begins))
