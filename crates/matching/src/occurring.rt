@@ -135,7 +135,7 @@ pub fn size_apart(heap: &[u32], cells: &[u16], v: usize, p: usize) -> Size
         if u == 0 {
             return over();
         }
-        if u == sought {
+        if sought == u {
             return over();
         }
         nodes += 1;
