@@ -38,7 +38,7 @@ ghost use Rattle.treads.specs.Stepping.{Under-way, Behind-first, Entered
 
 pub mod sizing; // how large goal and answer are at most
 
-// Where the goal's rows behind its first formula stand. Most often there are none in the same place, and the formula is not gone through for its end.
+// Where the goal's rows behind its first formula stand. Behind the only formula of a clause's body there are none in the same place, and it is not gone through for its end.
 fn behind_first(heap: &[u32], s: Standing) -> usize
     requires { ⌜ Valids (now heap) × (length (now heap) < 65536) × Whole (now heap) (s .due) (s .at) × (0 < s .due) ⌝ }
     ensures { λ r. ⌜ Behind-first (now (heap .entry)) s r ⌝ }
