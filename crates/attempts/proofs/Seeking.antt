@@ -19,7 +19,7 @@ use Rattle.heapgoals.specs.Holding.{used, Holds}
 use Rattle.heapgoals.specs.HoldLaws.{Fore, fore-same, fore-after, holds-levels, holds-words, held-row, held-first}
 use Rattle.heapgoals.specs.declared.Standing.{Standing}
 use Rattle.bounds.specs.Sizing.{Weighed}
-use Rattle.bounds.specs.declared.Size.{Size}
+use Rattle.bounds.specs.declared.Weight.{Weight}
 use Rattle.attempts.specs.Trying.{laid, Held-trial, Tested, Sought}
 use Rattle.attempts.specs.declared.Attempt.{Attempt}
 use Rattle.attempts.specs.declared.Attempt.the-variants.{Fits as Fits-now, Clash, Tired}
@@ -99,14 +99,14 @@ module _ {book shelf words₀ cells₀ rows₀ levels₀ stack₀ : List ℕ} {s
 
     module _ {P : Book} (o : BookOn book shelf P) {f : Expr} {g a : Goal} (h : Holds words₀ cells₀ levels₀ s (f ∷ g) a) (l : i < length P) (clause words′ cells′ tables : List ℕ) (is : clause ≡ clause-words book shelf (length P) i) (v : Attempt)
         (t : Tested f (clause-at P i) (take (s .top) words) clause words′ cells s cells′ tables v) where
-      pub found-here : (count : ℕ) (size : Size) → v ≡ Fits-now count size → Sought P f book shelf (take (s .top) words₀) words′ cells₀ s cells′ tables (Seen.Clause i count size)
+      pub found-here : (count : ℕ) (size : Weight) → v ≡ Fits-now count size → Sought P f book shelf (take (s .top) words₀) words′ cells₀ s cells′ tables (Seen.Clause i count size)
       found-here count size e =
           let y = subst (Tested f (clause-at P i) (take (s .top) words) clause words′ cells s cells′ tables) e t in (
             picked-here f P 0 i (omega arith) l (k .passing P f g a o h l) (y .0),
             l,
             subst (λ w. Held-trial w (clause-words book shelf (length P) i) words′ cells₀ s cells′ tables count) (k .front)
                 (subst (λ x. Held-trial (take (s .top) words) x words′ cells₀ s cells′ tables count) is (subst (λ x. Held-trial (take (s .top) words) clause words′ x s cells′ tables count) (k .cells-are) (y .1))),
-            subst (λ w. Weighed (laid w (s .base) (clause-words book shelf (length P) i)) cells′ (trail tables) count size) (k .front) (subst (λ x. Weighed (laid (take (s .top) words) (s .base) x) cells′ (trail tables) count size) is (y .2)),
+            subst (λ w. Weighed (laid w (s .base) (clause-words book shelf (length P) i)) cells′ (s .base) (trail tables) count size) (k .front) (subst (λ x. Weighed (laid (take (s .top) words) (s .base) x) cells′ (s .base) (trail tables) count size) is (y .2)),
           )
 
       pub none-here : v ≡ Clash → Meets f (clause-at P i) → ⊥

@@ -10,7 +10,7 @@ use lib.Seq.{ext-getD, getD-take, length-take-le, take-at, drop-at}
 use borrow.Rule.Slice.PartMut.{putMid, same-len-mid}
 use Rattle.heap.specs.Heap.{bound}
 use Rattle.bounds.specs.Sizing.{Weighed}
-use Rattle.bounds.specs.declared.Size.{Size}
+use Rattle.bounds.specs.declared.Weight.{Weight}
 use Rattle.matching.specs.Binding.{Trailed, trail-none}
 use Rattle.matching.specs.Unifying.{Begun, Unseen, Trail-kept}
 use Rattle.matching.specs.declared.unifying.Trial.{Trial}
@@ -54,8 +54,8 @@ trail-back tables now l e =
     ∙ take-at now (drop 8448 (drop 16512 tables)) 8448 (e ∙ trail-long tables l)
 
 -- what was weighed with the part is weighed with the whole
-pub weighed-back : {heap cells now whole : List ℕ} {count : ℕ} {size : Size} → whole ≡ now → Weighed heap cells now count size → Weighed heap cells whole count size
-weighed-back {heap} {cells} {count = count} {size} is w = subst (λ l. Weighed heap cells l count size) (inv is) w
+pub weighed-back : {heap cells now whole : List ℕ} {base base′ count : ℕ} {size : Weight} → base ≡ base′ → whole ≡ now → Weighed heap cells base now count size → Weighed heap cells base′ whole count size
+weighed-back {heap} {cells} {whole = whole} {base = base} {count = count} {size} same is w = subst (λ n. Weighed heap cells n whole count size) same (subst (λ l. Weighed heap cells base l count size) (inv is) w)
 
 module _ {heap before : List ℕ} {s : Standing} (x : Set-up heap before s) (tables cells now tables′ : List ℕ) (count : ℕ) (is : trail tables′ ≡ now) (t : Trial) (b : Starts s t) (k : Trail-kept before (trail tables) t cells now count) (unseen : Unseen heap before cells) where
   kept : Trail-kept before (trail tables) (start s (b .0)) cells now count

@@ -56,7 +56,7 @@ pub record Fitted (heap cells : List ℕ) (s : Standing) (cells′ tables : List
 
 -- they are, or can't be made so, or nothing is known
 abbrev pub Attempted : List ℕ → List ℕ → Standing → List ℕ → List ℕ → Attempt → Type 0
-Attempted heap cells s cells′ tables (Fits-now count size) = Fitted heap cells s cells′ tables count × Weighed heap cells′ (trail tables) count size
+Attempted heap cells s cells′ tables (Fits-now count size) = Fitted heap cells s cells′ tables count × Weighed heap cells′ (s .base) (trail tables) count size
 Attempted heap cells s cells′ tables Clash = (cells′ ≡ cells) × ((τ : Subst) → Solves heap cells τ → ¬ Equal heap τ 1 (s .at) (s .top))
 Attempted heap cells s cells′ tables Tired = cells′ ≡ cells
 
@@ -67,13 +67,13 @@ pub record Held-trial (heap clause words cells : List ℕ) (s : Standing) (cells
 
 -- the head of c and the formula f, tried
 abbrev pub Tested : Expr → Clause → List ℕ → List ℕ → List ℕ → List ℕ → Standing → List ℕ → List ℕ → Attempt → Type 0
-Tested f c heap clause words cells s cells′ tables (Fits-now count size) = Meets f c × Held-trial heap clause words cells s cells′ tables count × Weighed (laid heap (s .base) clause) cells′ (trail tables) count size
+Tested f c heap clause words cells s cells′ tables (Fits-now count size) = Meets f c × Held-trial heap clause words cells s cells′ tables count × Weighed (laid heap (s .base) clause) cells′ (s .base) (trail tables) count size
 Tested f c heap clause words cells s cells′ tables Clash = (Meets f c → ⊥) × (cells′ ≡ cells)
 Tested f c heap clause words cells s cells′ tables Tired = cells′ ≡ cells
 
 -- the first clause that fits, and its trial; or it is a fact that needs none; or nothing is known
 abbrev pub Sought : Book → Expr → List ℕ → List ℕ → List ℕ → List ℕ → List ℕ → Standing → List ℕ → List ℕ → Found → Type 0
 Sought P f book shelf heap words cells s cells′ tables (Found.Clause i count size) =
-    Picked f P 0 i × (i < length P) × Held-trial heap (clause-words book shelf (length P) i) words cells s cells′ tables count × Weighed (laid heap (s .base) (clause-words book shelf (length P) i)) cells′ (trail tables) count size
+    Picked f P 0 i × (i < length P) × Held-trial heap (clause-words book shelf (length P) i) words cells s cells′ tables count × Weighed (laid heap (s .base) (clause-words book shelf (length P) i)) cells′ (s .base) (trail tables) count size
 Sought P f book shelf heap words cells s cells′ tables (Found.Given i) = Picked f P 0 i × (i < length P) × Given f (clause-at P i) × (cells′ ≡ cells)
 Sought P f book shelf heap words cells s cells′ tables Found.Unsure = cells′ ≡ cells

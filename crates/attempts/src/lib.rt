@@ -2,7 +2,7 @@
 use crate::facts::is_given;
 use crate::passing::hopeful;
 use crate::passing::lead;
-use bounds::Size;
+use bounds::Weight;
 use heapgoals::Standing;
 use heapgoals::clear;
 use matching::binding::undo;
@@ -35,7 +35,7 @@ pub mod facts; // facts that need no trial
 // The two are equal now, with so many goal variables on the trail, each of which stands for so much at most, where that is known; or they can't be made equal; or nothing is known. Only where
 // they are equal is more bound than before.
 pub enum Attempt {
-    Fits(usize, Size),
+    Fits(usize, Weight),
     Clash,
     Tired,
 }
@@ -121,7 +121,7 @@ fn try_clause(
 
 // The first clause that fits, by its number, how many goal variables its trial has bound and what each of them stands for at most; or that it is a fact which stands there; or nothing is known.
 pub enum Found {
-    Clause(usize, usize, Size),
+    Clause(usize, usize, Weight),
     Given(usize),
     Unsure,
 }

@@ -5,7 +5,6 @@ use native.Mathlib.Decide.{ℕ-discrete, decLt}
 use mathlib.Core.Path.{_≡_, refl, sym as inv, ap, _∙_, subst}
 use mathlib.Core.List.{List, [], _∷_}
 use lib.ListN.{length, getD, List·getD-eq-default}
-use Rattle.terms.specs.Node.{Node, var, sym, Expr}
 use Rattle.terms.specs.Subst.{Subst, apply}
 use Rattle.words.specs.Word.{kindOf, node}
 use Rattle.words.specs.WordLaws.{node-var, node-sym}
@@ -15,8 +14,9 @@ use Rattle.heap.specs.Walking.{ahead, Ready, Visited, flat}
 use Rattle.heap.specs.LoneLaws.{flat-ready}
 use Rattle.heap.specs.PartLaws.{ahead-alone}
 use Rattle.heap.specs.declared.walking.Walk.{Walk}
-use Rattle.bounds.specs.Places.{places}
+use Rattle.bounds.specs.Places.{weigh, places}
 use Rattle.bounds.specs.Sizing.{Known, Sized, Bound, Grown}
+use Rattle.bounds.specs.WeighLaws.{weigh-append}
 use Rattle.bounds.specs.declared.Size.{Size}
 
 -- One node, and whether it is a variable.
@@ -26,9 +26,21 @@ one-var u k = ap (λ x. places (x ∷ [])) (inv (node-var u k))
 pub one-sym : (u : ℕ) → (kindOf u ≡ 1 → ⊥) → 0 ≡ places (node u ∷ [])
 one-sym u n = let (s, e) = node-sym u n in ap (λ x. places (x ∷ [])) (inv e)
 
-places-cons : (x : Node) (e : Expr) → places (x ∷ e) ≡ places (x ∷ []) + places e
-places-cons (var v) e = omega arith
-places-cons (sym s) e = omega arith
+-- after some nodes, whose variables weigh n, the walk w is left
+pub record Tallies (heap cells : List ℕ) (at due : ℕ) (weight : ℕ → ℕ) (levels : List ℕ) (n : ℕ) (w : Walk) : Type 0 where
+  pub sum : (θ : Subst) → Solved heap cells θ → n + weigh weight (ahead heap levels θ w) ≡ weigh weight (apply θ (rows heap due at))
+
+module _ {heap cells : List ℕ} {at due : ℕ} (weight : ℕ → ℕ) where
+  pub tally-start : {levels : List ℕ} → Tallies heap cells at due weight levels 0 (flat at due)
+  tally-start {levels} = record { sum = λ θ s. omega (arith, ap (weigh weight) (ahead-alone heap cells levels (flat at due) refl θ)) }
+
+  pub tally-on : {levels levels′ : List ℕ} {n u : ℕ} {w w′ : Walk} → Tallies heap cells at due weight levels n w → Visited heap cells levels w u levels′ w′ → {k : ℕ} → k ≡ weigh weight (node u ∷ []) → {n′ : ℕ} → n′ ≡ n + k → Tallies heap cells at due weight levels′ n′ w′
+  tally-on {levels′ = levels′} {u = u} {w′ = w′} x visit is en = record { sum = λ θ s. omega (arith, x .sum θ s, ap (weigh weight) (visit .same θ s), weigh-append weight (node u ∷ []) (ahead heap levels′ θ w′), is, en) }
+
+  pub tally-end : {levels : List ℕ} {n : ℕ} {w : Walk} → Tallies heap cells at due weight levels n w → Ready heap levels w → w .due ≤ 0 → (θ : Subst) → Solved heap cells θ → n ≡ weigh weight (apply θ (rows heap due at))
+  tally-end {levels} {w = w} x ready z θ s =
+      let none : w .due ≡ 0 = omega (arith, z) in
+      omega (arith, x .sum θ s, ap (weigh weight) (ahead-alone heap cells levels w (ready .ended none) θ ∙ ap (λ n. apply θ (rows heap n (w .at))) none ∙ ap (apply θ) (rows-none heap (w .at))))
 
 -- after some nodes the walk w is left
 pub record Counting (heap cells : List ℕ) (at due limit : ℕ) (levels : List ℕ) (nodes variables : ℕ) (w : Walk) : Type 0 where
@@ -37,7 +49,7 @@ pub record Counting (heap cells : List ℕ) (at due limit : ℕ) (levels : List 
   pub few : variables ≤ nodes
   pub low : nodes ≤ limit
   pub long : (θ : Subst) → Solved heap cells θ → nodes + length (ahead heap levels θ w) ≡ length (apply θ (rows heap due at))
-  pub held : (θ : Subst) → Solved heap cells θ → variables + places (ahead heap levels θ w) ≡ places (apply θ (rows heap due at))
+  pub held : Tallies heap cells at due (λ v. 1) levels variables w
 
 module _ {heap cells : List ℕ} {at due limit : ℕ} where
   pub count-start : {levels : List ℕ} → Whole heap due at → Counting heap cells at due limit levels 0 0 (flat at due)
@@ -47,7 +59,7 @@ module _ {heap cells : List ℕ} {at due limit : ℕ} where
     few = omega arith;
     low = omega arith;
     long = λ θ s. omega (arith, ap length (alone θ));
-    held = λ θ s. omega (arith, ap places (alone θ));
+    held = tally-start (λ v. 1);
   }
     where
       alone : (θ : Subst) → ahead heap levels θ (flat at due) ≡ apply θ (rows heap due at)
@@ -59,7 +71,7 @@ module _ {heap cells : List ℕ} {at due limit : ℕ} where
       few = x .few;
       low = λ k. x .low;
       long = λ k θ s. omega (arith, x .long θ s, ap length (nothing θ));
-      places = λ k θ s. omega (arith, x .held θ s, ap places (nothing θ));
+      places = λ k. tally-end (λ v. 1) (x .held) (x .ready) z;
     }
       where
         none : w .due ≡ 0
@@ -76,16 +88,15 @@ module _ {heap cells : List ℕ} {at due limit : ℕ} where
       few = omega (arith, x .few, one, en, ev);
       low = omega (arith, x .low, more, en);
       long = λ θ s. omega (arith, x .long θ s, ap length (visit .same θ s), en);
-      held = λ θ s. omega (arith, x .held θ s, ap places (visit .same θ s), places-cons (node u) (ahead heap levels′ θ w′), is, ev);
+      held = tally-on (λ v. 1) (x .held) visit is ev;
     }
 
 -- One variable more of a trail.
 module _ {heap cells trail : List ℕ} where
-  pub grown-start : {limit : ℕ} → 1 ≤ limit → Grown heap cells trail 0 limit (record { nodes = 1; variables = 1 })
+  pub grown-start : {limit : ℕ} → 1 ≤ limit → Grown heap cells trail 0 limit (record { nodes = 1; variables = 0 })
   grown-start l = record {
     some = omega arith;
     few = omega arith;
-    one = λ k. omega arith;
     low = λ k. l;
     long = λ k i h. absurd (omega arith);
     places = λ k i h. absurd (omega arith);
@@ -124,7 +135,6 @@ module _ {heap cells trail : List ℕ} where
           record {
             some = omega (arith, g .some, a .0);
             few = b .2 n′ (omega (arith, g .few, a .0)) (omega (arith, s .few, a .1));
-            one = λ k. omega (arith, g .one was, b .0);
             low = λ k. a .2 limit low (s .low known);
             long = λ k x h θ t. elim (ℕ-discrete x i) [
               | yes z ↦ omega (arith, a .1, s .long known θ t, ap length (stands θ t), ap (λ y. length (θ (getD trail y 0))) z)

@@ -15,7 +15,7 @@ use Rattle.search.specs.Next.{Goal}
 use Rattle.search.specs.Room.{nodes}
 use Rattle.words.specs.Flat.{flat, flat-append, flat-apply, flat-number, flat-size}
 use Rattle.bounds.specs.Places.{weigh, places, places-all}
-use Rattle.bounds.specs.WeighLaws.{gain, weigh-append, weigh-rename, weigh-most, length-apply, places-apply}
+use Rattle.bounds.specs.WeighLaws.{gain, weigh-append, weigh-rename, weigh-most, length-apply, places-apply, places-few}
 
 pub flat-in : (v : ℕ) (g : Goal) → In v (flat g) → In-any v g
 flat-in v (f ∷ g) i = elim (in-append v f (flat g) i) [ inl j ↦ inl j | inr j ↦ inr (flat-in v g j) ]
@@ -23,6 +23,10 @@ flat-in v (f ∷ g) i = elim (in-append v f (flat g) i) [ inl j ↦ inl j | inr 
 pub places-flat : (g : Goal) → places (flat g) ≡ places-all g
 places-flat [] = refl
 places-flat (f ∷ g) = weigh-append (λ v. 1) f (flat g) ∙ ap (λ n. places f + n) (places-flat g)
+
+pub places-all-few : (g : Goal) → places-all g ≤ nodes g
+places-all-few [] = omega arith
+places-all-few (f ∷ g) = omega (arith, places-few f, places-all-few g)
 
 pub nodes-append : (g h : Goal) → nodes (g ++ h) ≡ nodes g + nodes h
 nodes-append g h = inv (flat-size (g ++ h)) ∙ ap length (flat-append g h) ∙ omega (arith, length-append (flat g) (flat h), flat-size g, flat-size h)

@@ -25,6 +25,9 @@ mark-same x v p = rw (eq-eqb x v p)
 pub mark-other : (x v : ℕ) → (x ≡ v → ⊥) → mark x v ≡ 0
 mark-other x v p = rw (ne-eqb x v p)
 
+pub mark-most : (x v : ℕ) → mark x v ≤ 1
+mark-most x v = elim (ℕ-discrete x v) [ yes p ↦ omega (arith, mark-same x v p) | no n ↦ omega (arith, mark-other x v n) ]
+
 -- a variable is in an expression just where it is there at least once
 pub in-times : (x : ℕ) (e : Expr) → In x e → times x e ≡ 0 → ⊥
 in-times x (var v ∷ e) (inl p) z = omega (arith, z, mark-same x v p)
@@ -38,16 +41,16 @@ out-times x (sym s ∷ e) n = out-times x e n
 
 -- Weights but at one variable.
 module _ (n : ℕ) (w : ℕ → ℕ) where
-  abbrev except : ℕ → ℕ
+  abbrev pub except : ℕ → ℕ
   except v = eqb n v ⇒ 0 ∣ w v
 
-  except-same : (v : ℕ) → n ≡ v → except v ≡ 0
+  pub except-same : (v : ℕ) → n ≡ v → except v ≡ 0
   except-same v e = ap (λ b. b ⇒ 0 ∣ w v) (eq-eqb n v e)
 
-  except-other : (v : ℕ) → (n ≡ v → ⊥) → except v ≡ w v
+  pub except-other : (v : ℕ) → (n ≡ v → ⊥) → except v ≡ w v
   except-other v e = ap (λ b. b ⇒ 0 ∣ w v) (ne-eqb n v e)
 
-  weigh-split : (e : Expr) → weigh w e ≡ times n e * w n + weigh except e
+  pub weigh-split : (e : Expr) → weigh w e ≡ times n e * w n + weigh except e
   weigh-split [] = omega arith
   weigh-split (var v ∷ e) = elim (ℕ-discrete n v) [
     | yes p ↦ omega (arith, weigh-split e, except-same v p, ap w p, ap (λ k. (k + times n e) * w n) (mark-same n v p), add-mul 1 (times n e) (w n))
@@ -76,12 +79,12 @@ counts (suc n) w a b none less =
     ]
 
 -- a number that no variable reaches
-abbrev top : Expr → ℕ
+abbrev pub top : Expr → ℕ
 top [] = 0
 top (var v ∷ e) = suc v + top e
 top (sym s ∷ e) = top e
 
-top-high : (x : ℕ) (e : Expr) → top e ≤ x → times x e ≡ 0
+pub top-high : (x : ℕ) (e : Expr) → top e ≤ x → times x e ≡ 0
 top-high x [] l = refl
 top-high x (var v ∷ e) l = omega (arith, top-high x e (omega (arith, l)), mark-other x v (λ p. omega (arith, p, l)))
 top-high x (sym s ∷ e) l = top-high x e l

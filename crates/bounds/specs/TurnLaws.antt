@@ -10,12 +10,9 @@ use Rattle.terms.specs.Node.{var, sym, Expr}
 use Rattle.words.specs.Word.{node, nodes}
 use Rattle.bounds.specs.Places.{weigh, times}
 use Rattle.bounds.specs.Tally.{Noting, Noted-on, Taking, Took}
-use Rattle.bounds.specs.ThriftLaws.{mark, mark-same, mark-other}
+use Rattle.bounds.specs.ThriftLaws.{mark, mark-most}
 use Rattle.bounds.specs.declared.clauses.Noted.{Noted}
 use Rattle.bounds.specs.declared.clauses.Taken.{Taken}
-
-mark-most : (x v : ℕ) → mark x v ≤ 1
-mark-most x v = elim (ℕ-discrete x v) [ yes p ↦ omega (arith, mark-same x v p) | no n ↦ omega (arith, mark-other x v n) ]
 
 weigh-long : (q : ℕ → ℕ) → ((v : ℕ) → q v ≤ 1) → (e : Expr) → weigh q e ≤ length e
 weigh-long q one [] = omega arith

@@ -2,6 +2,7 @@
 use Prim.Native.Nat.{ℕ, _+_, _*_, _-_, _≤_}
 use native.Mathlib.Omega.{arith}
 use native.Mathlib.Nat.{add-mul}
+use native.Mathlib.Decide.{ℕ-discrete}
 use mathlib.Core.Path.{_≡_, refl, ap, _∙_}
 use mathlib.Core.Logic.{inl, inr}
 use mathlib.Core.List.{[], _∷_, _++_}
@@ -39,6 +40,15 @@ module _ (w : ℕ → ℕ) where
   weigh-most k (var v ∷ e) all = omega (arith, all v (inl refl), weigh-most k e (λ x i. all x (inr i)), add-mul 1 (places e) k)
   weigh-most k (sym s ∷ e) all = weigh-most k e all
 
+  -- some variable has a weight
+  pub weigh-some : (e : Expr) → (weigh w e ≡ 0 → ⊥) → (v : ℕ) × In v e × (w v ≡ 0 → ⊥)
+  weigh-some [] n = absurd (n refl)
+  weigh-some (var v ∷ e) n = elim (ℕ-discrete (w v) 0) [
+    | yes z ↦ let (x, i, m) = weigh-some e (λ q. n (omega (arith, z, q))) in (x, inr i, m)
+    | no m ↦ (v, inl refl, m)
+  ]
+  weigh-some (sym s ∷ e) n = weigh-some e n
+
   -- with no weights
   pub weigh-none : (e : Expr) → ((v : ℕ) → In v e → w v ≡ 0) → weigh w e ≡ 0
   weigh-none [] all = refl
@@ -61,3 +71,8 @@ length-apply σ ok (sym s ∷ e) = omega (arith, length-apply σ ok e)
 
 pub places-apply : (σ : Subst) (e : Expr) → places (apply σ e) ≡ weigh (λ v. places (σ v)) e
 places-apply σ e = weigh-apply (λ v. 1) σ e
+
+pub places-few : (e : Expr) → places e ≤ length e
+places-few [] = omega arith
+places-few (var v ∷ e) = omega (arith, places-few e)
+places-few (sym s ∷ e) = omega (arith, places-few e)

@@ -8,12 +8,12 @@ use words::arity;
 use words::get;
 ghost use mathlib.Core.Path.{_≡_};
 ghost use mathlib.Core.List.{[], _∷_};
-ghost use Prim.Native.Nat.{ℕ, _≤_};
+ghost use Prim.Native.Nat.{ℕ, _<_, _≤_};
 ghost use lib.ListN.{length};
 ghost use Rattle.words.specs.Word.{Valid, node};
 ghost use Rattle.heap.specs.Heap.{Made, Whole};
-ghost use Rattle.bounds.specs.Places.{places};
-ghost use Rattle.bounds.specs.Sizing.{Sized, Bound, Grown, Weighed};
+ghost use Rattle.bounds.specs.Places.{weigh, places, below};
+ghost use Rattle.bounds.specs.Sizing.{Sized, Bound, Grown, Weighs, Weighed};
 
 pub mod clauses; // what a clause's body adds to its head
 
@@ -21,6 +21,14 @@ pub mod clauses; // what a clause's body adds to its head
 pub struct Size {
     pub nodes: usize,
     pub variables: usize,
+}
+
+// What a trial has bound: each of its variables stands for so many nodes at most, and so many of them are variables, one of each at least. And where no variable was there twice, none is
+// there more than `times` times now.
+pub struct Weight {
+    pub nodes: usize,
+    pub variables: usize,
+    pub times: usize,
 }
 
 // As many nodes as are not counted, or not known.
@@ -35,13 +43,25 @@ pub fn over() -> Size
     }
 }
 
-// What a variable stands for that is not bound.
-pub fn least() -> Size
-    ensures { λ r. ⌜ r ≡ record { nodes = 1; variables = 1 } ⌝ }
+// Where nothing is bound: a variable stands for itself.
+pub fn weightless() -> Weight
+    ensures { λ r. ⌜ r ≡ record { nodes = 1; variables = 1; times = 1 } ⌝ }
 {
-    Size {
+    Weight {
         nodes: 1,
         variables: 1,
+        times: 1,
+    }
+}
+
+// Not known.
+pub fn unweighed() -> Weight
+    ensures { λ r. ⌜ r .nodes ≡ 65535 ⌝ }
+{
+    Weight {
+        nodes: OVER,
+        variables: 0,
+        times: 0,
     }
 }
 
@@ -50,6 +70,17 @@ pub fn one_if_variable(u: u32) -> usize
     ensures { λ r. ⌜ (r ≡ places (node u ∷ [])) × (r ≤ 1) ⌝ }
 {
     if u < SYMBOL {
+        return 1;
+    }
+    0
+}
+
+// A variable that was there before has a number below the base.
+pub fn one_if_old(u: u32, base: usize) -> usize
+    requires { ⌜ Valid u × (base < 65536) ⌝ }
+    ensures { λ r. ⌜ (r ≡ weigh (below base) (node u ∷ [])) × (r ≤ places (node u ∷ [])) ⌝ }
+{
+    if u < 0x100_0000 + base as u32 {
         return 1;
     }
     0
@@ -133,7 +164,7 @@ fn row_size(heap: &[u32], cells: &[u16], levels: &mut [u16], p: usize, limit: us
     size_of(heap, cells, levels, p, 1, limit)
 }
 
-// The most that a variable of the trail stands for, and 1 at least.
+// The most that a variable of the trail stands for, and one node at least.
 fn growth(
     heap: &[u32],
     cells: &[u16],
@@ -147,7 +178,7 @@ fn growth(
     ensures { λ r. ⌜ Grown (now (heap .entry)) (now (cells .entry)) (now (trail .entry)) count limit r ⌝ }
 {
     let mut nodes = 1;
-    let mut variables = 1;
+    let mut variables = 0;
     let mut i = 0;
     while i < count {
         let v = get(trail, i);
@@ -163,21 +194,26 @@ fn growth(
     Size { nodes, variables }
 }
 
-// The same, where a trial has not found it already.
-pub fn known_growth(
+// What a trial has bound, where the trial does not tell.
+pub fn weight_of(
     heap: &[u32],
     cells: &[u16],
     levels: &mut [u16],
     trail: &[u16],
     count: usize,
-    known: Size,
-) -> Size
-    requires { ⌜ Made (now heap) (now cells) × Bound (now cells) (now trail) count × Weighed (now heap) (now cells) (now trail) count known ⌝ }
-    requires { ⌜ (514 ≤ length (now levels)) × (count ≤ length (now trail)) ⌝ }
-    ensures { λ r. ⌜ Grown (now (heap .entry)) (now (cells .entry)) (now (trail .entry)) count 4096 r ⌝ }
+    known: Weight,
+) -> Weight
+    requires { ⌜ Made (now heap) (now cells) × Bound (now cells) (now trail) count ⌝ }
+    requires { ⌜ (514 ≤ length (now levels)) × (count ≤ length (now trail)) × (count ≤ 8448) ⌝ }
+    ensures { λ r. ⌜ ((base : ℕ) → Weighed (now (heap .entry)) (now (cells .entry)) base (now (trail .entry)) count known → Weighs (now (heap .entry)) (now (cells .entry)) base (now (trail .entry)) count r) ⌝ }
 {
     if known.nodes < OVER {
         return known;
     }
-    growth(heap, cells, levels, trail, count, 4096)
+    let x = growth(heap, cells, levels, trail, count, 4096);
+    Weight {
+        nodes: x.nodes,
+        variables: larger(x.variables, 1),
+        times: 1 + count * x.variables,
+    }
 }

@@ -5,15 +5,9 @@ use mathlib.Core.Path.{_≡_, ap, _∙_}
 use mathlib.Core.List.{List, [], _∷_, map-append}
 use lib.ListN.{length, getD, take}
 use lib.Seq.{take-suc, take-all}
-use Rattle.terms.specs.Node.{var, sym, Expr}
 use Rattle.words.specs.Word.{node, nodes}
 use Rattle.bounds.specs.Places.{places}
 use Rattle.bounds.specs.WeighLaws.{weigh-append}
-
-pub places-few : (e : Expr) → places e ≤ length e
-places-few [] = omega arith
-places-few (var v ∷ e) = omega (arith, places-few e)
-places-few (sym s ∷ e) = omega (arith, places-few e)
 
 pub places-more : (words : List ℕ) (i n m : ℕ) → i < length words → n ≡ places (nodes (take i words)) → m ≡ places (node (getD words i 0) ∷ []) → {j : ℕ} → j ≡ suc i → n + m ≡ places (nodes (take j words))
 places-more words i n m l e h p =

@@ -23,12 +23,13 @@ use Rattle.words.specs.Word.{Fit, Fits, Valids, node, nodes}
 use Rattle.words.specs.WordLaws.{fits-more, each-append, in-words}
 use Rattle.words.specs.Flat.{flat, flat-append, flat-number, flat-size}
 use Rattle.heap.specs.Heap.{rows, Made, Solved}
-use Rattle.bounds.specs.Places.{places}
+use Rattle.bounds.specs.Places.{places, places-all}
+use Rattle.bounds.specs.WeighLaws.{places-few}
 use Rattle.bounds.specs.GoalLaws.{places-flat}
+use Rattle.bounds.specs.OftenLaws.{seldom-few}
 use Rattle.heapgoals.specs.declared.Sides.{Sides}
 use Rattle.heapgoals.specs.Holding.{listed, Holds}
 use Rattle.heapgoals.specs.Rows.{Sided, Clean}
-use Rattle.heapgoals.proofs.Counts.{places-few}
 
 -- A variable's number by first appearance is below the number of nodes.
 
@@ -138,6 +139,7 @@ module _ {row : List ℕ} {x : Sides} {f : Expr} {g a : Goal} (y : Sided row x f
       nodes = x .words;
       found = found;
       variables = n;
+      most = n;
       least = x .first;
     }) (f ∷ g) a
     stood n e {found} d = record {
@@ -168,7 +170,15 @@ module _ {row : List ℕ} {x : Sides} {f : Expr} {g a : Goal} (y : Sided row x f
       answer-nodes = omega (arith, answer-words, flat-size a, d);
       goal-room = omega (arith, y .held .goal .size, goal-long);
       answer-room = omega (arith, y .held .answer .size, length-drop (x .words) row, d);
-      variables = omega (arith, e, places-flat ((f ∷ g) ++ a), ap places (flat-append (f ∷ g) a ∙ inv row-nodes));
-      variables-room = omega (arith, e, places-few (nodes row), length-map row node, row-small);
+      variables = places-now;
+      variables-room = places-room;
+      often = seldom-few ((f ∷ g) ++ a) places-now;
+      often-room = places-room;
       leading = omega (arith, y .first);
     }
+      where
+        places-now : places-all ((f ∷ g) ++ a) ≤ n
+        places-now = omega (arith, e, places-flat ((f ∷ g) ++ a), ap places (flat-append (f ∷ g) a ∙ inv row-nodes))
+
+        places-room : n ≤ 8192
+        places-room = omega (arith, e, places-few (nodes row), length-map row node, row-small)

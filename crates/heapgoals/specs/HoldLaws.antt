@@ -81,6 +81,8 @@ module _ {levels levels′ : List ℕ} (x : Fore levels levels′) where
         answer-room = h .answer-room;
         variables = h .variables;
         variables-room = h .variables-room;
+        often = h .often;
+        often-room = h .often-room;
         leading = h .leading;
       }
 
@@ -116,6 +118,8 @@ holds-words {words} {words′} {cells} {levels} {s} {g} {a} e l h = record {
   answer-room = h .answer-room;
   variables = h .variables;
   variables-room = h .variables-room;
+  often = h .often;
+  often-room = h .often-room;
   leading = h .leading;
 }
 

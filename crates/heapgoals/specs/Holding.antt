@@ -11,7 +11,7 @@ use Rattle.search.specs.Room.{nodes}
 use Rattle.words.specs.Word.{Fits, nodes as heap-nodes}
 use Rattle.heap.specs.Heap.{rows, Whole, bound, Made, Solved}
 use Rattle.heap.specs.Walking.{level-at, level-due, Levels}
-use Rattle.bounds.specs.Places.{places-all}
+use Rattle.bounds.specs.Places.{places-all, Seldom}
 use Rattle.heapgoals.specs.declared.Standing.{Standing}
 
 -- the k rows from p on, each by itself
@@ -70,4 +70,6 @@ pub record Holds (words cells levels : List ℕ) (s : Standing) (g a : Goal) : T
   pub answer-room : s .found ≤ 4096
   pub variables : places-all (g ++ a) ≤ s .variables
   pub variables-room : s .variables ≤ 8192
+  pub often : Seldom (s .most) (g ++ a)
+  pub often-room : s .most ≤ 8192
   pub leading : Leading (s .least) g

@@ -16,8 +16,8 @@ pub mod telling; // a row told apart from a saved formula
 pub mod writing; // what is held, written out
 
 // `due` rows of the goal from the position `at` on, and behind them those of `depth` levels, the last first, as a walk has them; how many formulas these are, and the
-// answer's rows. How many words of the heap are in use, and from which number on variables are new. Goal and answer have at most `nodes` and `found` nodes, and `variables` of these are
-// variables; the first formula has `least` at least.
+// answer's rows. How many words of the heap are in use, and from which number on variables are new. Goal and answer have at most `nodes` and `found` nodes, `variables` of these are
+// variables, and no variable is there more than `most` times; the first formula has `least` nodes at least.
 pub struct Standing {
     pub at: usize,
     pub due: usize,
@@ -30,6 +30,7 @@ pub struct Standing {
     pub nodes: usize,
     pub found: usize,
     pub variables: usize,
+    pub most: usize,
     pub least: usize,
 }
 
@@ -61,6 +62,7 @@ pub fn stand(row: &[u32], x: Sides) -> Standing
     ensures held { λ r. ⌜ ((f : Expr) (g a : Goal) → Sided (now (row .entry)) x f g a → (words cells levels : List ℕ) → Clean (now (row .entry)) words cells levels → Holds words cells levels r (f ∷ g) a) ⌝ }
     ensures top { λ r. ⌜ r .top ≡ length (now (row .entry)) ⌝ }
 {
+    let variables = variables_in(row);
     Standing {
         at: 0,
         due: x.formulas,
@@ -72,7 +74,8 @@ pub fn stand(row: &[u32], x: Sides) -> Standing
         base: row.len(),
         nodes: x.words,
         found: row.len() - x.words,
-        variables: variables_in(row),
+        variables,
+        most: variables,
         least: x.first,
     }
 }

@@ -3,15 +3,14 @@ use crate::binding::bind;
 use crate::heads::Matched;
 use crate::heads::match_head;
 use crate::occurring::is_away;
-use crate::occurring::size_apart;
+use crate::occurring::weight_apart;
 use crate::pairs::Pairs;
 use crate::unifying::Trial;
 use crate::unifying::Tried;
 use crate::unifying::unify;
-use bounds::Size;
-use bounds::larger;
-use bounds::least;
-use bounds::over;
+use bounds::Weight;
+use bounds::unweighed;
+use bounds::weightless;
 use heap::SYMBOL;
 use heap::follow;
 use heap::id;
@@ -26,7 +25,7 @@ ghost use Rattle.matching.specs.Fitting.{Hangs, Hangs-last, Fitting};
 
 // A variable of the goal is on a row of the head now, which stands for so much; or it is not, since it is in what that stands for, or that is not known.
 pub enum Hanging {
-    On(Size),
+    On(Weight),
     Off,
 }
 
@@ -40,19 +39,16 @@ fn hang_row(
     v: usize,
     q: usize,
 ) -> Hanging
-    requires { ⌜ Made (now heap) (now cells) × ((θ : Subst) × Solved (now heap) (now cells) θ) × Whole (now heap) 1 q × (length (now cells) ≤ 8256) × (v < length (now cells)) × (t .count < length (now trail)) × (t .fuel ≤ 8448) × (514 ≤ length (now levels)) ⌝ }
+    requires { ⌜ Made (now heap) (now cells) × ((θ : Subst) × Solved (now heap) (now cells) θ) × Whole (now heap) 1 q × (length (now cells) ≤ 8256) × (v < length (now cells)) × (t .count < length (now trail)) × (t .fuel ≤ 8448) × (514 ≤ length (now levels)) × (t .base < 65536) ⌝ }
     ensures { λ r. ⌜ Hangs (now (heap .entry)) (now (cells .entry)) (now (trail .entry)) t v q (now (cells .exit)) (now (trail .exit)) r ⌝ }
 {
     if t.base <= v {
         return Hanging::Off;
     }
-    let size = size_apart(heap, cells, v, q);
+    let size = weight_apart(heap, cells, t.base, v, q);
     if is_away(heap, cells, levels, v, q, t.fuel, size) {
         bind(cells, trail, t.base, t.count, v, q);
-        return Hanging::On(Size {
-            nodes: size.nodes,
-            variables: larger(size.variables, 1),
-        });
+        return Hanging::On(size);
     }
     Hanging::Off
 }
@@ -67,7 +63,7 @@ fn hang_last(
     x: Pairs,
 ) -> Hanging
     requires { ⌜ Made (now heap) (now cells) × ((θ : Subst) × Solved (now heap) (now cells) θ) × (length (now cells) ≤ 8256) × (0 < x .due) × Whole (now heap) (x .due) (x .p) × Whole (now heap) (x .due) (x .q) ⌝ }
-    requires { ⌜ (t .count ≡ 0) × (t .fuel ≤ 8448) × (514 ≤ length (now levels)) × (t .count + t .fuel ≤ length (now trail)) ⌝ }
+    requires { ⌜ (t .count ≡ 0) × (t .fuel ≤ 8448) × (514 ≤ length (now levels)) × (t .count + t .fuel ≤ length (now trail)) × (t .base < 65536) ⌝ }
     ensures { λ r. ⌜ Hangs-last (now (heap .entry)) (now (cells .entry)) (now (trail .entry)) t x (now (cells .exit)) (now (trail .exit)) r ⌝ }
 {
     if x.due != 1 {
@@ -91,7 +87,7 @@ fn hang_last(
 
 // The rows are equal, after so many bindings of goal variables, each of which stands for so much at most, where that is known; they can't be made equal; or nothing is known.
 pub enum Fitted {
-    Fits(usize, Size),
+    Fits(usize, Weight),
     Clash(usize),
     Tired(usize),
 }
@@ -112,7 +108,7 @@ fn fit_all(
     ensures { λ z. ⌜ Fitting (now (heap .entry)) (now (cells .entry)) (now (trail .entry)) t p q (now (cells .exit)) (now (trail .exit)) z ⌝ }
 {
     match unify(heap, cells, trail, levels, stack, t, p, q) {
-        Tried::Fits(count, _) => Fitted::Fits(count, over()),
+        Tried::Fits(count, _) => Fitted::Fits(count, unweighed()),
         Tried::Clash(count) => Fitted::Clash(count),
         Tried::Tired(count) => Fitted::Tired(count),
     }
@@ -130,14 +126,14 @@ pub fn fit(
     q: usize,
 ) -> Fitted
     requires { ⌜ Made (now heap) (now cells) × ((θ : Subst) × Solved (now heap) (now cells) θ) × (length (now cells) ≤ 8256) × Whole (now heap) 1 p × Whole (now heap) 1 q × Begun (now heap) (now cells) t ⌝ }
-    requires { ⌜ (t .fuel ≤ 8448) × (514 ≤ length (now levels)) × (t .count + t .fuel ≤ length (now trail)) × (387 ≤ length (now stack)) ⌝ }
+    requires { ⌜ (t .fuel ≤ 8448) × (514 ≤ length (now levels)) × (t .count + t .fuel ≤ length (now trail)) × (387 ≤ length (now stack)) × (t .base < 65536) ⌝ }
     ensures { λ z. ⌜ Fitting (now (heap .entry)) (now (cells .entry)) (now (trail .entry)) t p q (now (cells .exit)) (now (trail .exit)) z ⌝ }
 {
     match match_head(heap, cells, stack, t, p, q) {
         Matched::Unlike => Fitted::Clash(t.count),
         Matched::Left(x) => {
             if x.due == 0 {
-                return Fitted::Fits(t.count, least());
+                return Fitted::Fits(t.count, weightless());
             }
             match hang_last(heap, cells, trail, levels, t, x) {
                 Hanging::On(size) => Fitted::Fits(t.count + 1, size),

@@ -1,8 +1,10 @@
 // The occur check: whether a variable is in what a row stands for.
 use bounds::OVER;
-use bounds::Size;
+use bounds::Weight;
+use bounds::larger;
+use bounds::one_if_old;
 use bounds::one_if_variable;
-use bounds::over;
+use bounds::unweighed;
 use heap::walking::DEEPEST;
 use heap::walking::Walk;
 use heap::walking::lone;
@@ -13,10 +15,12 @@ ghost use mathlib.Core.Bool.{true};
 ghost use mathlib.Core.List.{[]};
 ghost use Prim.Native.Nat.{_<_, _≤_};
 ghost use lib.ListN.{length};
-ghost use Rattle.heap.specs.Heap.{Made, Whole};
+ghost use Rattle.terms.specs.Subst.{Subst};
+ghost use Rattle.heap.specs.Heap.{Made, Solved, Whole};
 ghost use Rattle.heap.specs.Walking.{flat};
-ghost use Rattle.bounds.specs.Sizing.{Known, Sized};
+ghost use Rattle.bounds.specs.Sizing.{Known, plain};
 ghost use Rattle.matching.specs.Occurring.{Apart, Looked, Seeking};
+ghost use Rattle.matching.specs.Fitting.{Heavy};
 
 // It is not, and so many nodes may still be visited; it is; or there were too many nodes or levels to say.
 pub enum Look {
@@ -116,37 +120,44 @@ pub fn occurs(
     seek(heap, cells, levels, v, p, fuel, rest)
 }
 
-// How large what a row stands for is, where v is not in it and each of the row's words stands for one node: so the row is gone through once for both. Not known otherwise.
-pub fn size_apart(heap: &[u32], cells: &[u16], v: usize, p: usize) -> Size
-    requires { ⌜ Made (now heap) (now cells) × Whole (now heap) 1 p × (v < 65536) ⌝ }
-    ensures sized { λ r. ⌜ Sized (now (heap .entry)) (now (cells .entry)) p 1 4096 r ⌝ }
-    ensures apart { λ r. ⌜ (Known r → Apart (now (heap .entry)) (now (cells .entry)) v p) ⌝ }
+// What a variable weighs that is bound to a row, where v is not in what the row stands for and each of its words stands for one node: so the row is gone through once for both. Not known
+// otherwise. A variable of the goal is below the base: it is where v was, and where it is itself.
+pub fn weight_apart(heap: &[u32], cells: &[u16], base: usize, v: usize, p: usize) -> Weight
+    requires { ⌜ Made (now heap) (now cells) × ((θ : Subst) × Solved (now heap) (now cells) θ) × Whole (now heap) 1 p × (v < 65536) × (base < 65536) ⌝ }
+    ensures heavy { λ r. ⌜ (Known (plain r) → Heavy (now (heap .entry)) (now (cells .entry)) base p r) ⌝ }
+    ensures apart { λ r. ⌜ (Known (plain r) → Apart (now (heap .entry)) (now (cells .entry)) v p) ⌝ }
 {
     let sought = 0x100_0000 + v as u32;
     let mut nodes = 0;
     let mut variables = 0;
+    let mut old = 0;
     let mut due = 1;
     let mut at = p;
     while 0 < due {
         if nodes == 4096 {
-            return over();
+            return unweighed();
         }
         let u = lone(heap, cells, at);
         if u == 0 {
-            return over();
+            return unweighed();
         }
         if sought == u {
-            return over();
+            return unweighed();
         }
         nodes += 1;
         variables += one_if_variable(u);
+        old += one_if_old(u, base);
         due = due - 1 + arity(u);
         at += 1;
     }
-    Size { nodes, variables }
+    Weight {
+        nodes,
+        variables: larger(variables, 1),
+        times: larger(variables - old, 1 + old),
+    }
 }
 
-// Whether it is known not to be, by the size that was found or by a walk.
+// Whether it is known not to be, by what was weighed or by a walk.
 pub fn is_away(
     heap: &[u32],
     cells: &[u16],
@@ -154,9 +165,9 @@ pub fn is_away(
     v: usize,
     p: usize,
     fuel: usize,
-    size: Size,
+    size: Weight,
 ) -> bool
-    requires { ⌜ Made (now heap) (now cells) × Whole (now heap) 1 p × (v < 65536) × (Known size → Apart (now heap) (now cells) v p) ⌝ }
+    requires { ⌜ Made (now heap) (now cells) × Whole (now heap) 1 p × (v < 65536) × (Known (plain size) → Apart (now heap) (now cells) v p) ⌝ }
     requires { ⌜ (fuel ≤ 8448) × (514 ≤ length (now levels)) ⌝ }
     ensures { λ r. ⌜ (r ≡ true → Apart (now (heap .entry)) (now (cells .entry)) v p) ⌝ }
 {

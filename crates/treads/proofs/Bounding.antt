@@ -1,13 +1,13 @@
 -- How large the next goal and answer are at most.
-use Prim.Native.Nat.{ℕ, _+_, _-_, _<_, _≤_}
+use Prim.Native.Nat.{ℕ, _+_, _*_, _-_, _<_, _≤_}
 use native.Mathlib.Omega.{arith}
 use mathlib.Core.Path.{_≡_, refl, sym as inv, ap, ap₂, _∙_, subst}
 use mathlib.Core.Logic.{_⊎_, inl, inr}
 use mathlib.Core.List.{List, [], _∷_, _++_, map, map-append, append-nil, append-assoc}
 use lib.ListN.{length, getD, take, drop, length-map, length-drop}
 use lib.Seq.{take-at, drop-at, length-take-le}
-use Rattle.terms.specs.Node.{var, sym, Expr}
-use Rattle.terms.specs.Subst.{In-any, Subst, Proper, apply, itself}
+use Rattle.terms.specs.Node.{Expr}
+use Rattle.terms.specs.Subst.{In-any, Subst, apply, itself}
 use Rattle.terms.specs.SubstLaws.{apply-on, map-same}
 use Rattle.terms.specs.Rename.{rename}
 use Rattle.terms.specs.NumberLaws.{number-length}
@@ -21,14 +21,15 @@ use Rattle.words.specs.HeldLaws.{head-length}
 use Rattle.heap.specs.Heap.{rows, bound, Solved}
 use Rattle.heap.specs.SolvedLaws.{solved-one}
 use Rattle.trials.specs.Trying.{trail}
-use Rattle.bounds.specs.Places.{places, places-all}
+use Rattle.bounds.specs.Places.{weigh, times, places, places-all, Seldom}
 use Rattle.figures.specs.Figures.{first-of}
 use Rattle.bounds.specs.Thrift.{fresh, Thrifty, Kept}
-use Rattle.bounds.specs.Sizing.{Known, Grown}
-use Rattle.bounds.specs.WeighLaws.{length-apply}
-use Rattle.bounds.specs.GoalLaws.{nodes-append, places-flat, places-all-number, numbered-nodes}
-use Rattle.bounds.specs.RoomLaws.{room-leading, room-thrifty, places-thrifty, room-counted, places-counted, room-answer}
-use Rattle.bounds.specs.declared.Size.{Size}
+use Rattle.bounds.specs.Sizing.{Known, plain, Weighs}
+use Rattle.bounds.specs.WeighLaws.{gain}
+use Rattle.bounds.specs.GoalLaws.{nodes-append, places-flat, places-all-few, places-all-number, numbered-nodes, weigh-all-most}
+use Rattle.bounds.specs.OftenLaws.{seldom-few, gain-few, often-under, number-seldom}
+use Rattle.bounds.specs.RoomLaws.{room-leading, room-thrifty, places-thrifty, room-counted, places-counted, room-answer, often-thrifty}
+use Rattle.bounds.specs.declared.Weight.{Weight}
 use Rattle.heapgoals.specs.Holding.{answer-rows, used, Holds}
 use Rattle.heapgoals.specs.ListLaws.{listed-flat}
 use Rattle.heapgoals.specs.HoldLaws.{rest-rows, held-rows, held-first, first-meant, rest-meant, answer-meant, held-all, held-low, held-free}
@@ -43,27 +44,7 @@ use Rattle.attempts.proofs.Extending.{rename-length}
 use Rattle.attempts.proofs.Laying.{whole-fits, unifier-meant, general}
 use Rattle.treads.proofs.Nexts.{body-is, body-whole, found, σ, on-clause, goal-meant, next-meant, all-meant}
 use Rattle.treads.proofs.Going.{heap-short}
-
-places-few : (e : Expr) → places e ≤ length e
-places-few [] = omega arith
-places-few (var v ∷ e) = omega (arith, places-few e)
-places-few (sym s ∷ e) = omega (arith, places-few e)
-
-places-all-few : (g : Goal) → places-all g ≤ nodes g
-places-all-few [] = omega arith
-places-all-few (f ∷ g) = omega (arith, places-few f, places-all-few g)
-
--- the first of some formulas
-first-map : (F : Expr → Expr) → F [] ≡ [] → (g : Goal) → first-of (map F g) ≡ F (first-of g)
-first-map F e [] = inv e
-first-map F e (f ∷ g) = refl
-
-first-flat : (g : Goal) → (x : Expr) × (flat g ≡ first-of g ++ x)
-first-flat [] = ([], refl)
-first-flat (f ∷ g) = (flat g, refl)
-
-longer : (θ : Subst) → Proper θ → (e : Expr) → length e ≤ length (apply θ e)
-longer θ ok e = omega (arith, length-apply θ ok e)
+use Rattle.treads.proofs.Firsts.{first-map, first-flat, longer}
 
 module _ {words before levels : List ℕ} {s : Standing} {f : Expr} {g a : Goal} (h : Holds words before levels s (f ∷ g) a) (clause : List ℕ) (c : Span) (d : Clause) (q : ClauseIn clause (c .head - c .start) (c .bodies) d) (room : s .base ≤ 8192) (short : s .top + length clause < 65536)
     (clause-long : length clause ≡ c .end - c .start) (ordered : (c .start < c .head) × (c .head ≤ c .end)) where
@@ -108,6 +89,9 @@ module _ {words before levels : List ℕ} {s : Standing} {f : Expr} {g a : Goal}
   few-places : places-all (F ∷ (G ++ A)) ≤ s .variables
   few-places = omega (arith, places-all-number [] (F ∷ (G ++ A)), ap places-all (held-all h), h .variables)
 
+  seldom-now : Seldom (s .most) (F ∷ (G ++ A))
+  seldom-now = number-seldom (F ∷ (G ++ A)) (subst (Seldom (s .most)) (inv (held-all h)) (h .often))
+
   first-size : length f ≡ length F
   first-size = ap length (inv (held-first h)) ∙ number-length [] F
 
@@ -124,24 +108,39 @@ module _ {words before levels : List ℕ} {s : Standing} {f : Expr} {g a : Goal}
         inv (append-nil (τ v)) ∙ ap (apply τ) (inv (h .solved .free v e) ∙ inv (append-nil (h .meaning v)))
         ∙ unifier-meant h clause (c .head - c .start) (c .bodies) d q room short (fitted .more) (z .1) (itself v) ∙ append-nil (z .0 v)
 
-    module _ (grown : Size) (y : Grown heap cells (trail tables) count 4096 grown) (known : Known grown) where
+    agree : (v : ℕ) → In-any v (F ∷ (G ++ A)) → τ v ≡ z .0 v
+    agree v i = at-free v (held-free h v i)
+
+    moved : (v : ℕ) → In-any v (F ∷ (G ++ A)) → (z .0 v ≡ itself v) ⊎ ((j : ℕ) × (j < count) × (getD (trail tables) j 0 ≡ v))
+    moved v i = elim (fitted .undoable .trailed .kept v (held-low h v i)) [ inl e ↦ inl (z .1 .free v (e ∙ held-free h v i)) | inr (o, (j, l, under, e)) ↦ inr (j, under, e) ]
+
+    module _ (grown : Weight) (y : Weighs heap cells (s .base) (trail tables) count grown) (known : Known (plain grown)) where
       least-of : (weight : Expr → ℕ) (most : ℕ) → ((v : ℕ) → weight (itself v) ≤ most) → ((i : ℕ) → i < count → weight (z .0 (getD (trail tables) i 0)) ≤ most) → (v : ℕ) → In-any v (F ∷ (G ++ A)) → weight (τ v) ≤ most
-      least-of weight most alone each v i = subst (λ e. weight e ≤ most) (inv (at-free v (held-free h v i))) (elim (fitted .undoable .trailed .kept v (held-low h v i)) [
-        | inl e ↦ subst (λ x. weight x ≤ most) (inv (z .1 .free v (e ∙ held-free h v i))) (alone v)
-        | inr (o, (j, l, under, e)) ↦ subst (λ x. weight (z .0 x) ≤ most) e (each j under)
+      least-of weight most alone each v i = subst (λ e. weight e ≤ most) (inv (agree v i)) (elim (moved v i) [
+        | inl e ↦ subst (λ x. weight x ≤ most) (inv e) (alone v)
+        | inr (j, under, e) ↦ subst (λ x. weight (z .0 x) ≤ most) e (each j under)
       ])
 
       longest : (v : ℕ) → In-any v (F ∷ (G ++ A)) → length (τ v) ≤ grown .nodes
-      longest = least-of length (grown .nodes) (λ v. y .some) (λ i l. y .long known i l (z .0) (z .1))
+      longest = least-of length (grown .nodes) (λ v. y .grown .some) (λ i l. y .grown .long known i l (z .0) (z .1))
 
       widest : (v : ℕ) → In-any v (F ∷ (G ++ A)) → places (τ v) ≤ grown .variables
-      widest = least-of places (grown .variables) (λ v. y .one known) (λ i l. y .places known i l (z .0) (z .1))
+      widest = least-of places (grown .variables) (λ v. y .one known) (λ i l. y .grown .places known i l (z .0) (z .1))
 
-      goal-now : nodes (F ∷ G) ≤ s .nodes
-      goal-now = omega (arith, goal-sizes .0, h .goal-nodes)
+      -- the places of all are charged, or as many as any one has for each that is bound
+      gained : (charged : ℕ) → (charged ≡ s .most * count) ⊎ (charged ≡ s .variables) → weigh (gain τ) (flat (F ∷ (G ++ A))) ≤ charged * (grown .nodes - 1)
+      gained charged (inl e) = subst (λ n. weigh (gain τ) (flat (F ∷ (G ++ A))) ≤ n * (grown .nodes - 1)) (inv e)
+          (gain-few (F ∷ (G ++ A)) (s .base) (s .most) (held-low h) seldom-now τ (z .0) agree (trail tables) count moved (grown .nodes) (λ j l. y .grown .long known j l (z .0) (z .1)))
+      gained charged (inr e) = subst (λ n. weigh (gain τ) (flat (F ∷ (G ++ A))) ≤ n * (grown .nodes - 1)) (inv e) (weigh-all-most (gain τ) (grown .nodes - 1) (s .variables) (F ∷ (G ++ A)) (λ v i. omega (arith, longest v i)) few-places)
 
-      answer-now : nodes A ≤ s .found
-      answer-now = omega (arith, goal-sizes .1, h .answer-nodes)
+      spread : weigh (λ v. places (τ v)) (flat (F ∷ (G ++ A))) ≤ s .variables * grown .variables
+      spread = weigh-all-most (λ v. places (τ v)) (grown .variables) (s .variables) (F ∷ (G ++ A)) widest few-places
+
+      multiplied : (x : ℕ) → weigh (λ v. times x (τ v)) (flat (F ∷ (G ++ A))) ≤ s .most * grown .times
+      multiplied x = often-under (F ∷ (G ++ A)) (s .base) (s .most) (held-low h) seldom-now τ (z .0) agree (trail tables) count moved x (grown .times) (y .old known (z .0) (z .1) x) (y .new known (z .0) (z .1) x)
+
+      sizes-now : (nodes (F ∷ G) ≤ s .nodes) × (nodes A ≤ s .found)
+      sizes-now = (omega (arith, goal-sizes .0, h .goal-nodes), omega (arith, goal-sizes .1, h .answer-nodes))
 
       body-meant : map (apply (z .0)) (body-rows heap s c) ≡ map (apply τ) body
       body-meant = ap (map (apply (z .0))) (body-is h clause c d q room short) ∙ on-clause h clause c d q room short fitted (d .body)
@@ -169,7 +168,7 @@ module _ {words before levels : List ℕ} {s : Standing} {f : Expr} {g a : Goal}
           let k = subst (λ x. Kept x (first-of (d .body))) head-words (subst (Kept (heap-nodes (take (head-long c) clause))) (first-words first first-long) kept) in
           omega (arith, lead-is, first-long, room-leading F G A (s .base) (held-low h) d τ (general h clause (c .head - c .start) (c .bodies) d q room short (fitted .more) (z .1)) (first-of (d .body)) k, h .leading, first-size, q .head, under)
 
-      module _ (more : Added) (r : Bounds) (sum : Summed s more grown r) (how : Thrifty-adds clause s c first more ⊎ Counted-adds heap cells s c first more) where
+      module _ (more : Added) (r : Bounds) (sum : Summed s more grown count r) (how : Thrifty-adds clause s c first more ⊎ Counted-adds heap cells s c first more) where
         bare : Thrifty-adds clause s c first more → Thrifty (d .head) (flat (d .body))
         bare t = subst (λ x. Thrifty x (flat (d .body))) head-words (subst (Thrifty (heap-nodes (take (head-long c) clause))) body-words (t .thrifty))
 
@@ -181,20 +180,32 @@ module _ {words before levels : List ℕ} {s : Standing} {f : Expr} {g a : Goal}
 
         goal-bound : nodes (map (apply τ) body ++ map (apply τ) G) ≤ r .nodes
         goal-bound = elim how [
-          | inl t ↦ omega (arith, room-thrifty F G A (s .base) (held-low h) d τ (general h clause (c .head - c .start) (c .bodies) d q room short (fitted .more) (z .1)) (grown .nodes) (grown .variables) (s .nodes) (s .found) (s .variables) longest widest goal-now answer-now few-places (bare t), sum .nodes-are, t .nodes-are, t .less-is, q .head, head-length clause (c .head - c .start) (c .bodies) d q, clause-long, ordered .0, ordered .1)
-          | inr k ↦ omega (arith, room-counted F G A (s .base) (held-low h) d τ (general h clause (c .head - c .start) (c .bodies) d q room short (fitted .more) (z .1)) (grown .nodes) (grown .variables) (s .nodes) (s .found) (s .variables) longest widest goal-now answer-now few-places, sum .nodes-are, k .less-is, counted-nodes k)
+          | inl t ↦ omega (arith, room-thrifty F G A (s .base) (held-low h) d τ (general h clause (c .head - c .start) (c .bodies) d q room short (fitted .more) (z .1)) (s .nodes) (s .found) (sum .charged * (grown .nodes - 1)) (s .variables * grown .variables) (gained (sum .charged) (sum .charged-is)) spread (sizes-now .0) (sizes-now .1) (bare t), sum .nodes-are, t .nodes-are, t .less-is, q .head, head-length clause (c .head - c .start) (c .bodies) d q, clause-long, ordered .0, ordered .1)
+          | inr k ↦ omega (arith, room-counted F G A (s .base) (held-low h) d τ (general h clause (c .head - c .start) (c .bodies) d q room short (fitted .more) (z .1)) (s .nodes) (s .found) (sum .charged * (grown .nodes - 1)) (s .variables * grown .variables) (gained (sum .charged) (sum .charged-is)) spread (sizes-now .0) (sizes-now .1), sum .nodes-are, k .less-is, counted-nodes k)
         ]
 
         answer-bound : nodes (map (apply τ) A) ≤ r .found
-        answer-bound = omega (arith, room-answer F G A (s .base) (held-low h) d τ (general h clause (c .head - c .start) (c .bodies) d q room short (fitted .more) (z .1)) (grown .nodes) (grown .variables) (s .nodes) (s .found) (s .variables) longest widest goal-now answer-now few-places, sum .found-is)
+        answer-bound = omega (arith, room-answer F G A (s .base) (held-low h) d τ (general h clause (c .head - c .start) (c .bodies) d q room short (fitted .more) (z .1)) (s .nodes) (s .found) (sum .charged * (grown .nodes - 1)) (s .variables * grown .variables) (gained (sum .charged) (sum .charged-is)) spread (sizes-now .0) (sizes-now .1), sum .found-is)
 
         places-bound : places-all (map (apply τ) body ++ map (apply τ) (G ++ A)) ≤ r .variables
         places-bound = elim (sum .spread) [
           | inl e ↦ elim how [
-            | inl t ↦ omega (arith, places-thrifty F G A (s .base) (held-low h) d τ (general h clause (c .head - c .start) (c .bodies) d q room short (fitted .more) (z .1)) (grown .nodes) (grown .variables) (s .nodes) (s .found) (s .variables) longest widest goal-now answer-now few-places (bare t), e, t .fresh-is ∙ ap₂ fresh head-words body-words)
-            | inr k ↦ omega (arith, places-counted F G A (s .base) (held-low h) d τ (general h clause (c .head - c .start) (c .bodies) d q room short (fitted .more) (z .1)) (grown .nodes) (grown .variables) (s .nodes) (s .found) (s .variables) longest widest goal-now answer-now few-places, e, counted-places k)
+            | inl t ↦ omega (arith, places-thrifty F G A (s .base) (held-low h) d τ (general h clause (c .head - c .start) (c .bodies) d q room short (fitted .more) (z .1)) (s .nodes) (s .found) (sum .charged * (grown .nodes - 1)) (s .variables * grown .variables) (gained (sum .charged) (sum .charged-is)) spread (sizes-now .0) (sizes-now .1) (bare t), e, t .fresh-is ∙ ap₂ fresh head-words body-words)
+            | inr k ↦ omega (arith, places-counted F G A (s .base) (held-low h) d τ (general h clause (c .head - c .start) (c .bodies) d q room short (fitted .more) (z .1)) (s .nodes) (s .found) (sum .charged * (grown .nodes - 1)) (s .variables * grown .variables) (gained (sum .charged) (sum .charged-is)) spread (sizes-now .0) (sizes-now .1), e, counted-places k)
           ]
           | inr e ↦ omega (arith, ap places-all together, places-all-few (map (apply τ) (body ++ G) ++ map (apply τ) A), nodes-append (map (apply τ) (body ++ G)) (map (apply τ) A), ap nodes apart, goal-bound, answer-bound, e)
+        ]
+
+        often-bound : Seldom (r .most) (map (apply τ) body ++ map (apply τ) (G ++ A))
+        often-bound = elim (sum .often .0) [
+          | inl e ↦ seldom-few (map (apply τ) body ++ map (apply τ) (G ++ A)) (omega (arith, places-bound, e))
+          | inr (some, own, most) ↦ elim how [
+            | inl t ↦ record {
+              each = λ x. often-thrifty F G A (s .base) (held-low h) d τ (general h clause (c .head - c .start) (c .bodies) d q room short (fitted .more) (z .1)) (bare t) x (r .most)
+                  (omega (arith, multiplied x, most)) (omega (arith, own, t .fresh-is ∙ ap₂ fresh head-words body-words));
+            }
+            | inr k ↦ absurd (some (k .less-is))
+          ]
         ]
 
         lead-bound : r .least ≤ length (first-of (map (apply (z .0)) (body-rows heap s c)))
@@ -208,12 +219,14 @@ module _ {words before levels : List ℕ} {s : Standing} {f : Expr} {g a : Goal}
           goal-nodes = λ θ y. subst (λ l. nodes l ≤ r .nodes) (inv (any θ y (next-rows heap levels s c) ∙ goal-meant h clause c d q room short fitted ∙ apart)) goal-bound;
           answer-nodes = λ θ y. subst (λ l. nodes l ≤ r .found) (inv (any θ y (answer-rows heap s) ∙ next-meant h clause c d q room short fitted)) answer-bound;
           places = λ θ y. subst (λ l. places-all l ≤ r .variables) (inv (any θ y (next-rows heap levels s c ++ answer-rows heap s) ∙ all-meant h clause c d q room short fitted ∙ together)) places-bound;
+          often = λ θ y. subst (Seldom (r .most)) (inv (any θ y (next-rows heap levels s c ++ answer-rows heap s) ∙ all-meant h clause c d q room short fitted ∙ together)) often-bound;
           leading = λ θ y. subst (λ l. r .least ≤ length (first-of l)) (inv (any θ y (body-rows heap s c))) lead-bound;
           below = subst (λ n. Fits (s .base + n) heap) (inv (sum .names-are)) (whole-fits h clause (c .head - c .start) (c .bodies) d q room short (more .names) few fit);
           few = omega (arith, sum .names-are, few);
           goal-room = sum .goal-room;
           answer-room = sum .answer-room;
           places-room = omega (arith, sum .few, sum .goal-room, sum .answer-room);
+          often-room = omega (arith, sum .often .1, sum .few, sum .goal-room, sum .answer-room);
         }
           where
             any : (θ : Subst) → Solved heap cells θ → (l : Goal) → map (apply θ) l ≡ map (apply (z .0)) l
@@ -227,11 +240,11 @@ module _ {book words before levels : List ℕ} {s : Standing} {c : Span} {heap�
   pub first-is : c .figure .first ≡ length (first-of (body-rows heap′ s c))
   first-is = u .figure .leads d (u .placed .clause) ∙ inv (first-long (u .held) (span-words book c) c d (u .placed .clause) (u .room) (heap-short u) words-long (u .placed .begins, u .placed .ends)) ∙ ap (λ l. length (first-of (body-rows l s c))) (inv (u .is))
 
-  pub bounds-hold : (grown : Size) → Grown heap′ cells (trail tables) count 4096 grown → (more : Added) → Adds (span-words book c) heap′ cells s c (length (first-of (body-rows heap′ s c))) more → (r : Bounds) → Summed s more grown r → Bounded heap′ cells levels s c r
+  pub bounds-hold : (grown : Weight) → Weighs heap′ cells (s .base) (trail tables) count grown → (more : Added) → Adds (span-words book c) heap′ cells s c (length (first-of (body-rows heap′ s c))) more → (r : Bounds) → Summed s more grown count r → Bounded heap′ cells levels s c r
   bounds-hold grown y more x r sum =
       subst (λ l. Bounded l cells levels s c r) (inv (u .is))
-      (core (subst (λ l. Fitted l before s cells tables count) (u .is) (u .fitted)) (subst (λ l. Grown l cells (trail tables) count 4096 grown) (u .is) y) (subst (λ l. Adds (span-words book c) l cells s c (length (first-of (body-rows l s c))) more) (u .is) x))
+      (core (subst (λ l. Fitted l before s cells tables count) (u .is) (u .fitted)) (subst (λ l. Weighs l cells (s .base) (trail tables) count grown) (u .is) y) (subst (λ l. Adds (span-words book c) l cells s c (length (first-of (body-rows l s c))) more) (u .is) x))
     where
-      core : Fitted (laid (used words s) (s .base) (span-words book c)) before s cells tables count → Grown (laid (used words s) (s .base) (span-words book c)) cells (trail tables) count 4096 grown
+      core : Fitted (laid (used words s) (s .base) (span-words book c)) before s cells tables count → Weighs (laid (used words s) (s .base) (span-words book c)) cells (s .base) (trail tables) count grown
           → Adds (span-words book c) (laid (used words s) (s .base) (span-words book c)) cells s c (length (first-of (body-rows (laid (used words s) (s .base) (span-words book c)) s c))) more → Bounded (laid (used words s) (s .base) (span-words book c)) cells levels s c r
       core fitted y x = bounded-so (u .held) (span-words book c) c d (u .placed .clause) (u .room) (heap-short u) words-long (u .placed .begins, u .placed .ends) fitted grown y (sum .grown-known) more r sum (x .how) (x .names) (x .few)

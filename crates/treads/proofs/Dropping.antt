@@ -26,6 +26,7 @@ use Rattle.heap.specs.Heap.{Whole}
 use Rattle.heap.specs.HeapLaws.{rows-none}
 use Rattle.heap.specs.Walking.{Levels}
 use Rattle.heap.specs.declared.walking.Walk.{Walk}
+use Rattle.bounds.specs.OftenLaws.{seldom-rest}
 use Rattle.heapgoals.specs.Holding.{answer-rows, used, Leading, Holds}
 use Rattle.heapgoals.specs.HoldLaws.{Fore, rest-rows, held-due, held-rows, first-meant, rest-meant, answer-meant, held-all, held-first}
 use Rattle.heapgoals.specs.declared.Standing.{Standing}
@@ -50,6 +51,7 @@ rest-standing s formulas w = record {
   nodes = s .nodes;
   found = s .found;
   variables = s .variables;
+  most = s .most;
   least = 0;
 }
 
@@ -108,6 +110,8 @@ module _ {words cells levels : List ℕ} {s : Standing} {f : Expr} {g a : Goal} 
     answer-room = h .answer-room;
     variables = omega (arith, h .variables);
     variables-room = h .variables-room;
+    often = seldom-rest (h .often);
+    often-room = h .often-room;
     leading = leads g;
   }
     where

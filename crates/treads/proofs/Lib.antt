@@ -5,4 +5,5 @@ mod Going
 mod Treading
 mod Dropping
 mod Summing
+mod Firsts
 mod Bounding

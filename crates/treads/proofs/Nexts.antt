@@ -28,8 +28,9 @@ use Rattle.trials.proofs.Heaps.{flat-rows, piece-whole}
 use Rattle.heap.specs.Heap.{rows, Whole, Solved}
 use Rattle.heap.specs.declared.walking.Walk.{Walk}
 use Rattle.paths.specs.Naming.{held-step}
-use Rattle.bounds.specs.Places.{places-all}
+use Rattle.bounds.specs.Places.{places-all, Seldom}
 use Rattle.bounds.specs.GoalLaws.{numbered-nodes, places-all-number}
+use Rattle.bounds.specs.OftenLaws.{seldom-number}
 use Rattle.figures.specs.Figures.{first-of}
 use Rattle.heapgoals.specs.Holding.{listed, answer-rows, used, Leading, Holds}
 use Rattle.heapgoals.specs.ListLaws.{listed-length}
@@ -67,6 +68,7 @@ next-standing s top formulas r w = record {
   nodes = r .nodes;
   found = r .found;
   variables = r .variables;
+  most = r .most;
   least = r .least;
 }
 
@@ -234,6 +236,8 @@ module _ {words before levels : List ℕ} {s : Standing} {f : Expr} {g a : Goal}
         answer-room = b .answer-room;
         variables = omega (arith, ap places-all parts, places-all-number [] (map (apply σ) (body ++ rest-meant h) ++ map (apply σ) (answer-meant h)), ap places-all all-meant, b .places θ (found .1));
         variables-room = b .places-room;
+        often = subst (Seldom (r .most)) (inv parts) (seldom-number (map (apply σ) (body ++ rest-meant h) ++ map (apply σ) (answer-meant h)) (subst (Seldom (r .most)) all-meant (b .often θ (found .1))));
+        often-room = b .often-room;
         leading = lead-number (r .least) (map (apply σ) (body ++ rest-meant h)) (map (apply σ) (answer-meant h)) goal answer parts goal-long
             (subst (λ x. r .least ≤ length (first-of x)) (inv (map-append (apply θ) (body-rows heap s c) (rest-rows heap levels s)) ∙ goal-meant) (lead-more (r .least) (map (apply θ) (body-rows heap s c)) (map (apply θ) (rest-rows heap levels s)) (b .leading θ (found .1))));
       }

@@ -21,8 +21,8 @@ use Rattle.treads.specs.declared.sizing.Span.{Span}
 use Rattle.treads.proofs.Going.{span-few}
 use Rattle.treads.proofs.Bounding.{first-is}
 
-pub few-product : (a b : ℕ) → a ≤ 8192 → b ≤ 65535 → a * b ≤ 536862720
-few-product a b l h = omega (arith, mul-le-mul-right {m = a} {n = 8192} b l, h)
+pub few-product : (a b m : ℕ) → a ≤ 8192 → b ≤ m → a * b ≤ 8192 * m
+few-product a b m l h = omega (arith, mul-le-mul-right {m = a} {n = 8192} b l, h)
 
 pub thrifty-adds : (clause : List ℕ) (s : Standing) (c : Span) (first r : ℕ) → Figure-of clause (head-long c) (c .bodies) (c .figure) → (c .figure .fresh ≡ 65535 → ⊥) → Led (s .least) (c .figure .whole) (head-long c) (c .figure .first) r → c .figure .first ≡ first
     → Thrifty-adds clause s c first (record { nodes = c .end - c .head; less = head-long c; variables = c .figure .fresh; least = r; names = c .figure .names })

@@ -20,7 +20,7 @@ use Rattle.words.specs.HeldLaws.{clauses-of}
 use Rattle.picking.specs.Picking.{Picked}
 use Rattle.applying.specs.Applying.{Onward}
 use Rattle.bounds.specs.Sizing.{Weighed}
-use Rattle.bounds.specs.declared.Size.{Size}
+use Rattle.bounds.specs.declared.Weight.{Weight}
 use Rattle.trials.specs.Trying.{trail, clause-words}
 use Rattle.figures.specs.Figures.{Figure-of}
 use Rattle.heapgoals.specs.Holding.{used, Holds}
@@ -58,7 +58,7 @@ module _ {book shelf : List ℕ} {P : Book} (o : BookOn book shelf P) (f : Expr)
       rw (ap goal-of both, next-answer) (last-behind h b (length a) (x .as-many))
 
 module _ {book shelf words cells levels : List ℕ} {P : Book} {s : Standing} {f : Expr} {g a : Goal} (o : BookOn book shelf P) (h : Holds words cells levels s (f ∷ g) a) (room : s .base ≤ 8192) (enough : s .top + 256 ≤ length words) (most : length words ≤ 8448)
-    {words′ cells′ tables levels′ : List ℕ} (long : length words′ ≡ length words) (x : Fore levels levels′) {i count : ℕ} {size : Size} (t : Sought P f book shelf (take (s .top) words) words′ cells s cells′ tables (Seen.Clause i count size))
+    {words′ cells′ tables levels′ : List ℕ} (long : length words′ ≡ length words) (x : Fore levels levels′) {i count : ℕ} {size : Weight} (t : Sought P f book shelf (take (s .top) words) words′ cells s cells′ tables (Seen.Clause i count size))
     (c : Span) (p : Placed book (c .start) (c .head) (c .end) (c .bodies) (clause-at P i)) (is : span-words book c ≡ clause-words book shelf (length P) i) where
   abbrev end : ℕ
   end = s .top + (c .end - c .start)
@@ -78,8 +78,8 @@ module _ {book shelf words cells levels : List ℕ} {P : Book} {s : Standing} {f
   heap-long : length (take (end - 0) (drop 0 words′)) ≡ end
   heap-long = ap length (part-front end words′) ∙ length-take-le end words′ end-inside
 
-  pub weighed-there : Weighed (take (end - 0) (drop 0 words′)) cells′ (trail tables) count size
-  weighed-there = subst (λ y. Weighed y cells′ (trail tables) count size) (ap (laid (used words s) (s .base)) (inv is) ∙ inv lent) (t .3)
+  pub weighed-there : Weighed (take (end - 0) (drop 0 words′)) cells′ (s .base) (trail tables) count size
+  weighed-there = subst (λ y. Weighed y cells′ (s .base) (trail tables) count size) (ap (laid (used words s) (s .base)) (inv is) ∙ inv lent) (t .3)
 
   module _ (figure : Figure-of (span-words book c) (head-long c) (c .bodies) (c .figure)) where
     pub under-way : Under-way book words cells levels′ s c (take (end - 0) (drop 0 words′)) cells′ tables count f g a (clause-at P i)

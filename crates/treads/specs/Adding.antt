@@ -10,8 +10,8 @@ use Rattle.words.specs.Word.{Fits, nodes}
 use Rattle.heap.specs.Heap.{rows, Solved}
 use Rattle.bounds.specs.Places.{places}
 use Rattle.bounds.specs.Thrift.{fresh, Thrifty, Kept}
-use Rattle.bounds.specs.Sizing.{Known}
-use Rattle.bounds.specs.declared.Size.{Size}
+use Rattle.bounds.specs.Sizing.{Known, plain}
+use Rattle.bounds.specs.declared.Weight.{Weight}
 use Rattle.heapgoals.specs.declared.Standing.{Standing}
 use Rattle.treads.specs.declared.sizing.Span.{Span}
 use Rattle.treads.specs.declared.sizing.Added.{Added}
@@ -51,15 +51,22 @@ pub record Adds (clause heap cells : List ℕ) (s : Standing) (c : Span) (first 
   pub small : (r .nodes ≡ 65535 → ⊥) → r .nodes ≤ 256
   pub spread : r .variables ≤ 65535
 
--- the bounds, where there is room
-pub record Summed (s : Standing) (more : Added) (grown : Size) (r : Bounds) : Type 0 where
+-- any one variable is there at most as often as there are places; or, where a thrifty body comes, as often as all of its own, and as any one was by what is bound
+abbrev pub Often : Standing → Added → ℕ → ℕ → ℕ → Type 0
+Often s more times variables r = ((r ≡ variables) ⊎ ((more .less ≡ 0 → ⊥) × (more .variables ≤ r) × (s .most * times ≤ r))) × (r ≤ variables)
+
+-- the bounds, where there is room; so many places of goal and answer are charged for what is bound
+pub record Summed (s : Standing) (more : Added) (grown : Weight) (count : ℕ) (r : Bounds) : Type 0 where
+  pub charged : ℕ
+  pub charged-is : (charged ≡ s .most * count) ⊎ (charged ≡ s .variables)
   pub added-known : more .nodes ≡ 65535 → ⊥
-  pub grown-known : Known grown
-  pub nodes-are : r .nodes + more .less ≡ s .nodes + s .variables * (grown .nodes - 1) + more .nodes
-  pub found-is : r .found ≡ s .found + s .variables * (grown .nodes - 1)
+  pub grown-known : Known (plain grown)
+  pub nodes-are : r .nodes + more .less ≡ s .nodes + charged * (grown .nodes - 1) + more .nodes
+  pub found-is : r .found ≡ s .found + charged * (grown .nodes - 1)
   pub goal-room : r .nodes ≤ 4096
   pub answer-room : r .found ≤ 4096
   pub spread : (r .variables ≡ more .variables + s .variables * grown .variables) ⊎ (r .variables ≡ r .nodes + r .found)
   pub few : r .variables ≤ r .nodes + r .found
+  pub often : Often s more (grown .times) (r .variables) (r .most)
   pub least-is : r .least ≡ more .least
   pub names-are : r .names ≡ more .names

@@ -17,7 +17,7 @@ use Rattle.applying.specs.Applying.{Onward}
 use Rattle.heap.specs.Heap.{rows, Whole, Solved}
 use Rattle.heap.specs.Walking.{Ready}
 use Rattle.heap.specs.declared.walking.Walk.{Walk}
-use Rattle.bounds.specs.Places.{places-all}
+use Rattle.bounds.specs.Places.{places-all, Seldom}
 use Rattle.figures.specs.Figures.{first-of, Figure-of}
 use Rattle.heapgoals.specs.Holding.{listed, waiting, answer-rows, used, Holds}
 use Rattle.heapgoals.specs.HoldLaws.{Fore, rest-rows}
@@ -54,12 +54,14 @@ pub record Bounded (heap cells levels : List ℕ) (s : Standing) (c : Span) (r :
   pub goal-nodes : (θ : Subst) → Solved heap cells θ → nodes (map (apply θ) (next-rows heap levels s c)) ≤ r .nodes
   pub answer-nodes : (θ : Subst) → Solved heap cells θ → nodes (map (apply θ) (answer-rows heap s)) ≤ r .found
   pub places : (θ : Subst) → Solved heap cells θ → places-all (map (apply θ) (next-rows heap levels s c ++ answer-rows heap s)) ≤ r .variables
+  pub often : (θ : Subst) → Solved heap cells θ → Seldom (r .most) (map (apply θ) (next-rows heap levels s c ++ answer-rows heap s))
   pub leading : (θ : Subst) → Solved heap cells θ → r .least ≤ length (first-of (map (apply θ) (body-rows heap s c)))
   pub below : Fits (s .base + r .names) heap
   pub few : r .names ≤ 64
   pub goal-room : r .nodes ≤ 4096
   pub answer-room : r .found ≤ 4096
   pub places-room : r .variables ≤ 8192
+  pub often-room : r .most ≤ 8192
 
 -- the rows behind the first formula's stand at r
 pub record Behind-first (heap : List ℕ) (s : Standing) (r : ℕ) : Type 0 where

@@ -6,7 +6,7 @@ use attempts::Found;
 use attempts::first_fit;
 use attempts::release;
 use bounds::OVER;
-use bounds::Size;
+use bounds::Weight;
 use figures::figure_at;
 use heap::past;
 use heap::walking::Walk;
@@ -98,9 +98,9 @@ fn go(
     s: Standing,
     c: Span,
     count: usize,
-    known: Size,
+    known: Weight,
 ) -> Tread
-    requires { ⌜ ((book : List ℕ) × (words : List ℕ) × (before : List ℕ) × (f : Expr) × (g : Goal) × (a : Goal) × (d : Clause) × Under-way book words before (now levels) s c (now heap) (now cells) (now rows) count f g a d) × (length (now rows) ≡ CELLS) × (s .depth < 256) × Weighed (now heap) (now cells) (trail (now rows)) count known ⌝ }
+    requires { ⌜ ((book : List ℕ) × (words : List ℕ) × (before : List ℕ) × (f : Expr) × (g : Goal) × (a : Goal) × (d : Clause) × Under-way book words before (now levels) s c (now heap) (now cells) (now rows) count f g a d) × (length (now rows) ≡ CELLS) × (s .depth < 256) × Weighed (now heap) (now cells) (s .base) (trail (now rows)) count known ⌝ }
     ensures { λ r. ⌜ Went (now (levels .entry)) s c (now (heap .entry)) (now (cells .entry)) (now (rows .entry)) count (now (levels .exit)) r ⌝ }
 {
     let formulas = s.formulas - 1 + c.bodies;
@@ -125,6 +125,7 @@ fn go(
         nodes: size.nodes,
         found: size.found,
         variables: size.variables,
+        most: size.most,
         least: size.least,
     })
 }
@@ -149,6 +150,7 @@ fn drop_first(words: &[u32], levels: &mut [u16], s: Standing) -> Standing
         nodes: s.nodes,
         found: s.found,
         variables: s.variables,
+        most: s.most,
         least: 0,
     }
 }

@@ -1,14 +1,15 @@
 // How large the next goal and answer are at most, by what the trial has bound and what the clause's body adds.
 use bounds::OVER;
-use bounds::Size;
-use bounds::known_growth;
+use bounds::Weight;
+use bounds::larger;
 use bounds::size_of;
+use bounds::weight_of;
 use figures::Figure;
 use heapgoals::Standing;
 ghost use mathlib.Core.Path.{_≡_};
 ghost use mathlib.Core.Logic.{_⊎_};
 ghost use mathlib.Core.List.{List};
-ghost use Prim.Native.Nat.{ℕ, _≤_, _<_};
+ghost use Prim.Native.Nat.{ℕ, _*_, _≤_, _<_};
 ghost use lib.ListN.{length};
 ghost use Rattle.terms.specs.Node.{Expr};
 ghost use Rattle.search.specs.Next.{Clause, Goal};
@@ -18,7 +19,7 @@ ghost use Rattle.figures.specs.Figures.{first-of};
 ghost use Rattle.trials.specs.Trying.{trail};
 ghost use Rattle.heapgoals.specs.HoldLaws.{Fore};
 ghost use Rattle.treads.specs.Stepping.{Under-way, body-rows, Bounded};
-ghost use Rattle.treads.specs.Adding.{span-words, Led, Adds, Summed};
+ghost use Rattle.treads.specs.Adding.{span-words, Led, Adds, Often, Summed};
 
 // Where a clause stands in the book, where its head ends, how many formulas its body has, and its figure.
 pub struct Span {
@@ -82,6 +83,7 @@ pub struct Bounds {
     pub nodes: usize,
     pub found: usize,
     pub variables: usize,
+    pub most: usize,
     pub least: usize,
     pub names: usize,
 }
@@ -93,6 +95,7 @@ fn unbounded() -> Bounds
         nodes: OVER,
         found: 0,
         variables: 0,
+        most: 0,
         least: 0,
         names: 0,
     }
@@ -107,9 +110,29 @@ fn smaller(a: usize, b: usize) -> usize
     b
 }
 
-fn bounded(s: Standing, more: Added, grown: Size) -> Bounds
-    requires { ⌜ (s .variables ≤ 8192) × (s .nodes ≤ 4096) × (s .found ≤ 4096) × (more .nodes ≤ 65535) × (more .variables ≤ 65535) × (1 ≤ grown .nodes) × (grown .nodes ≤ 65535) × (grown .variables ≤ grown .nodes) ⌝ }
-    ensures { λ r. ⌜ ((r .nodes ≡ 65535 → ⊥) → Summed s more grown r) ⌝ }
+// How often any one variable is in the next goal and answer, which have so many places of variables. Those of the body that the head has not are in neither before; where the body is counted, less is known.
+fn often(s: Standing, more: Added, times: usize, variables: usize) -> usize
+    requires { ⌜ (s .most ≤ 8192) × (times ≤ 553648129) ⌝ }
+    ensures { λ r. ⌜ Often s more times variables r ⌝ }
+{
+    if more.less == 0 {
+        return variables;
+    }
+    smaller(larger(more.variables, s.most * times), variables)
+}
+
+// The places of variables in goal and answer that a trial has bound something at, where it has bound so many variables.
+fn places_bound(s: Standing, count: usize) -> usize
+    requires { ⌜ (s .most ≤ 8192) × (count ≤ 8448) ⌝ }
+    ensures { λ r. ⌜ ((r ≡ s .most * count) ⊎ (r ≡ s .variables)) × (r ≤ s .variables) ⌝ }
+{
+    smaller(s.most * count, s.variables)
+}
+
+fn bounded(s: Standing, more: Added, grown: Weight, count: usize) -> Bounds
+    requires { ⌜ (s .variables ≤ 8192) × (s .most ≤ 8192) × (s .nodes ≤ 4096) × (s .found ≤ 4096) × (more .nodes ≤ 65535) × (more .variables ≤ 65535) × (count ≤ 8448) ⌝ }
+    requires { ⌜ (1 ≤ grown .nodes) × (grown .nodes ≤ 65535) × (grown .variables ≤ grown .nodes) × (grown .times ≤ 553648129) ⌝ }
+    ensures { λ r. ⌜ ((r .nodes ≡ 65535 → ⊥) → Summed s more grown count r) ⌝ }
 {
     if more.nodes == OVER {
         return unbounded();
@@ -117,7 +140,7 @@ fn bounded(s: Standing, more: Added, grown: Size) -> Bounds
     if grown.nodes == OVER {
         return unbounded();
     }
-    let extra = s.variables * (grown.nodes - 1);
+    let extra = places_bound(s, count) * (grown.nodes - 1);
     let total = s.nodes + extra + more.nodes;
     if total < more.less {
         return unbounded();
@@ -130,13 +153,15 @@ fn bounded(s: Standing, more: Added, grown: Size) -> Bounds
     if 4096 < found {
         return unbounded();
     }
+    let variables = smaller(
+        more.variables + s.variables * grown.variables,
+        nodes + found,
+    );
     Bounds {
         nodes,
         found,
-        variables: smaller(
-            more.variables + s.variables * grown.variables,
-            nodes + found,
-        ),
+        variables,
+        most: often(s, more, grown.times, variables),
         least: more.least,
         names: more.names,
     }
@@ -150,13 +175,13 @@ pub fn sized(
     s: Standing,
     c: Span,
     count: usize,
-    known: Size,
+    known: Weight,
 ) -> Bounds
-    requires { ⌜ ((book : List ℕ) × (words : List ℕ) × (before : List ℕ) × (f : Expr) × (g : Goal) × (a : Goal) × (d : Clause) × Under-way book words before (now levels) s c (now heap) (now cells) (now rows) count f g a d) × (length (now rows) ≡ CELLS) × Weighed (now heap) (now cells) (trail (now rows)) count known ⌝ }
+    requires { ⌜ ((book : List ℕ) × (words : List ℕ) × (before : List ℕ) × (f : Expr) × (g : Goal) × (a : Goal) × (d : Clause) × Under-way book words before (now levels) s c (now heap) (now cells) (now rows) count f g a d) × (length (now rows) ≡ CELLS) × Weighed (now heap) (now cells) (s .base) (trail (now rows)) count known ⌝ }
     ensures levels { λ _. ⌜ Fore (now (levels .entry)) (now (levels .exit)) ⌝ }
     ensures bounds { λ r. ⌜ ((r .nodes ≡ 65535 → ⊥) → (book words before : List ℕ) (f : Expr) (g a : Goal) (d : Clause) → Under-way book words before (now (levels .exit)) s c (now (heap .entry)) (now (cells .entry)) (now (rows .entry)) count f g a d → Bounded (now (heap .entry)) (now (cells .entry)) (now (levels .exit)) s c r) ⌝ }
 {
-    let grown = known_growth(
+    let grown = weight_of(
         heap,
         cells,
         &mut levels[514..1028],
@@ -165,5 +190,5 @@ pub fn sized(
         known,
     );
     let more = body_adds(heap, cells, &mut levels[514..1028], s, c);
-    bounded(s, more, grown)
+    bounded(s, more, grown, count)
 }

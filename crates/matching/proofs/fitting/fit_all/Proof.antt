@@ -1,7 +1,7 @@
 use native.Mathlib.Omega.{arith}
 use mathlib.Core.Path.{subst}
 use Rattle.matching.specs.Unifying.{Unified}
-use Rattle.matching.specs.HangLaws.{unweighed}
+use Rattle.matching.specs.HangLaws.{not-weighed}
 use borrow.Author.Needs.{needs}
 use Rattle.matching.proofs.fitting.fit_all.Statement.{statement}
 use Rattle.matching.proofs.fitting.fit_all.Tie as tie
@@ -19,7 +19,7 @@ fit-all-spec =
     (λ c. search needs)
     (λ c. search needs)
     (λ c. search needs)
-    (λ c. let z = subst (Unified _ _ _ _ _ _ _ _) (c .before .before .count .given .1) (c .before .before .before .before .before .before .before .before .before .before .before .before .unify .ensures) in ((z .0, z .1, omega (arith, z .1 .1), z .3), unweighed (c .over .ensures .0)))
+    (λ c. let z = subst (Unified _ _ _ _ _ _ _ _) (c .before .before .count .given .1) (c .before .before .before .before .before .before .before .before .before .before .before .before .unify .ensures) in ((z .0, z .1, omega (arith, z .1 .1), z .3), not-weighed (c .unweighed .ensures)))
     (λ c. search needs)
     (λ c. search needs)
     (λ c. search needs)

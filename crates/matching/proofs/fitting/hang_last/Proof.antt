@@ -20,7 +20,7 @@ hang-last-spec =
     (λ c. search needs)
     (λ c. (refl, refl))
     (λ c κs. search needs)
-    (λ c κs. let k = c .before .before .before .before .before .before .before .before .before .before .before .before .before .before .before .before .before .before .before .before .pre in let y = c .before .before .before .before .before .word2 .ensures in let fit = k .0 .0 .fits _ (c .before .before .before .before .before .before .follow .ensures .row .inside) in (k .0 .0, k .0 .1, right-row (k .0 .0) (c .before .before .before .before .before .before .before .before .before .before .before .before .before .before .before .before .before .before .before .before .args .x) (k .0 .3) (k .0 .4) (k .0 .5), k .0 .2, omega (arith, c .id .ensures .0, y, fit .below (omega (arith, y, c .before .before .before .before .if5 .left, fit .valid .low))), omega (arith, k .1 .3, c .before .before .before .before .before .before .before .before .before .before .if3 .left), k .1 .1, k .1 .2))
+    (λ c κs. let k = c .before .before .before .before .before .before .before .before .before .before .before .before .before .before .before .before .before .before .before .before .pre in let y = c .before .before .before .before .before .word2 .ensures in let fit = k .0 .0 .fits _ (c .before .before .before .before .before .before .follow .ensures .row .inside) in (k .0 .0, k .0 .1, right-row (k .0 .0) (c .before .before .before .before .before .before .before .before .before .before .before .before .before .before .before .before .before .before .before .before .args .x) (k .0 .3) (k .0 .4) (k .0 .5), k .0 .2, omega (arith, c .id .ensures .0, y, fit .below (omega (arith, y, c .before .before .before .before .if5 .left, fit .valid .low))), omega (arith, k .1 .3, c .before .before .before .before .before .before .before .before .before .before .if3 .left), k .1 .1, k .1 .2, k .1 .4))
     (λ c. search needs)
     (λ c. search needs)
     (λ c. search needs)
