@@ -6,7 +6,7 @@ use mathlib.Core.Path.{_≡_, refl, sym as inv, ap, _∙_, subst}
 use mathlib.Core.Logic.{inl, inr}
 use mathlib.Core.Bool.{true, false}
 use mathlib.Core.List.{List, [], _∷_}
-use lib.ListN.{length, getD, set, take, drop, replicate, length-set}
+use lib.ListN.{length, getD, set, take, drop, replicate, length-set, length-append}
 use lib.Seq.{drop-at, getD-set-same, getD-set-other}
 use borrow.Author.Tests.{lt-ltb, le-ltb}
 use Rattle.terms.specs.Row.{Row, Formulas}
@@ -31,9 +31,18 @@ none : (g : Goal) → 0 ≡ length g → 0 ≡ length (first-of g)
 none [] e = refl
 none (f ∷ g) e = absurd (omega (arith, e))
 
+-- the only one is the whole body
+alone : (g : Goal) → 1 ≡ length g → length (flat g) ≡ length (first-of g)
+alone [] e = absurd (omega (arith, e))
+alone (f ∷ []) e = omega (arith, length-append f [])
+alone (f ∷ g ∷ h) e = absurd (omega (arith, e))
+
 module _ (clause : List ℕ) (head bodies : ℕ) where
   pub leads-none : bodies ≡ 0 → Leads clause head bodies 0
   leads-none e c q = none (c .body) (inv e ∙ q .body)
+
+  pub leads-alone : bodies ≡ 1 → Leads clause head bodies (length clause - head)
+  leads-alone e c q = omega (arith, head-length clause head bodies c q, alone (c .body) (inv e ∙ q .body))
 
   module _ (c : Clause) (q : ClauseIn clause head bodies c) where
     body-nodes : drop head (nodes clause) ≡ flat (c .body)

@@ -24,6 +24,9 @@ fn first_of(clause: &[u32], head: usize, bodies: usize) -> usize
     if bodies == 0 {
         return 0;
     }
+    if bodies == 1 {
+        return clause.len() - head; // all that is behind the head, so that its words need not be gone through
+    }
     past(clause, head) - head
 }
 
