@@ -170,12 +170,16 @@ pub fn pass_nodes(form: Form, bytes: &[u8], table: &mut [u8], from: Open) -> Ope
 {
     let most = variable_limit(form);
     let limit = node_limit(form);
+    if bytes.len() < 4 {
+        return from;
+    }
+    let last = bytes.len() - 4; // the last place that a node of four bytes may have, found once
     let mut x = from;
     loop {
         if limit <= x.nodes {
             return x;
         }
-        if bytes.len() - x.at < 4 {
+        if last < x.at {
             return x;
         }
         let y = pass_node(bytes, table, x, most);
