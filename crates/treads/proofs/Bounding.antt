@@ -4,8 +4,8 @@ use native.Mathlib.Omega.{arith}
 use mathlib.Core.Path.{_≡_, refl, sym as inv, ap, ap₂, _∙_, subst}
 use mathlib.Core.Logic.{_⊎_, inl, inr}
 use mathlib.Core.List.{List, [], _∷_, _++_, map, map-append, append-nil, append-assoc}
-use lib.ListN.{length, getD, take, drop, length-map, length-drop}
-use lib.Seq.{take-at, drop-at, length-take-le}
+use lib.ListN.{length, getD, take, drop, length-map}
+use lib.Seq.{take-at, drop-at}
 use Rattle.terms.specs.Node.{Expr}
 use Rattle.terms.specs.Subst.{In-any, Subst, apply, itself}
 use Rattle.terms.specs.SubstLaws.{apply-on, map-same}
@@ -35,15 +35,14 @@ use Rattle.heapgoals.specs.ListLaws.{listed-flat}
 use Rattle.heapgoals.specs.HoldLaws.{rest-rows, held-rows, held-first, first-meant, rest-meant, answer-meant, held-all, held-low, held-free}
 use Rattle.heapgoals.specs.declared.Standing.{Standing}
 use Rattle.attempts.specs.Trying.{laid, Fitted}
-use Rattle.treads.specs.Stepping.{Under-way, body-at, body-rows, next-rows, Bounded}
-use Rattle.treads.specs.Adding.{span-words, head-long, Thrifty-adds, Counted-adds, Adds, Summed}
+use Rattle.treads.specs.Stepping.{body-at, body-rows, next-rows, Bounded}
+use Rattle.treads.specs.Adding.{head-long, Thrifty-adds, Counted-adds, Summed, Charged}
 use Rattle.treads.specs.declared.sizing.Span.{Span}
 use Rattle.treads.specs.declared.sizing.Added.{Added}
 use Rattle.treads.specs.declared.sizing.Bounds.{Bounds}
 use Rattle.attempts.proofs.Extending.{rename-length}
 use Rattle.attempts.proofs.Laying.{whole-fits, unifier-meant, general}
 use Rattle.treads.proofs.Nexts.{body-is, body-whole, found, σ, on-clause, goal-meant, next-meant, all-meant}
-use Rattle.treads.proofs.Going.{heap-short}
 use Rattle.treads.proofs.Firsts.{first-map, first-flat, longer}
 
 module _ {words before levels : List ℕ} {s : Standing} {f : Expr} {g a : Goal} (h : Holds words before levels s (f ∷ g) a) (clause : List ℕ) (c : Span) (d : Clause) (q : ClauseIn clause (c .head - c .start) (c .bodies) d) (room : s .base ≤ 8192) (short : s .top + length clause < 65536)
@@ -127,18 +126,6 @@ module _ {words before levels : List ℕ} {s : Standing} {f : Expr} {g a : Goal}
       widest : (v : ℕ) → In-any v (F ∷ (G ++ A)) → places (τ v) ≤ grown .variables
       widest = least-of places (grown .variables) (λ v. y .one known) (λ i l. y .grown .places known i l (z .0) (z .1))
 
-      -- the places of all are charged, or as many as any one has for each that is bound
-      gained : (charged : ℕ) → (charged ≡ s .most * count) ⊎ (charged ≡ s .variables) → weigh (gain τ) (flat (F ∷ (G ++ A))) ≤ charged * (grown .nodes - 1)
-      gained charged (inl e) = subst (λ n. weigh (gain τ) (flat (F ∷ (G ++ A))) ≤ n * (grown .nodes - 1)) (inv e)
-          (gain-few (F ∷ (G ++ A)) (s .base) (s .most) (held-low h) seldom-now τ (z .0) agree (trail tables) count moved (grown .nodes) (λ j l. y .grown .long known j l (z .0) (z .1)))
-      gained charged (inr e) = subst (λ n. weigh (gain τ) (flat (F ∷ (G ++ A))) ≤ n * (grown .nodes - 1)) (inv e) (weigh-all-most (gain τ) (grown .nodes - 1) (s .variables) (F ∷ (G ++ A)) (λ v i. omega (arith, longest v i)) few-places)
-
-      spread : weigh (λ v. places (τ v)) (flat (F ∷ (G ++ A))) ≤ s .variables * grown .variables
-      spread = weigh-all-most (λ v. places (τ v)) (grown .variables) (s .variables) (F ∷ (G ++ A)) widest few-places
-
-      multiplied : (x : ℕ) → weigh (λ v. times x (τ v)) (flat (F ∷ (G ++ A))) ≤ s .most * grown .times
-      multiplied x = often-under (F ∷ (G ++ A)) (s .base) (s .most) (held-low h) seldom-now τ (z .0) agree (trail tables) count moved x (grown .times) (y .old known (z .0) (z .1) x) (y .new known (z .0) (z .1) x)
-
       sizes-now : (nodes (F ∷ G) ≤ s .nodes) × (nodes A ≤ s .found)
       sizes-now = (omega (arith, goal-sizes .0, h .goal-nodes), omega (arith, goal-sizes .1, h .answer-nodes))
 
@@ -168,7 +155,23 @@ module _ {words before levels : List ℕ} {s : Standing} {f : Expr} {g a : Goal}
           let k = subst (λ x. Kept x (first-of (d .body))) head-words (subst (Kept (heap-nodes (take (head-long c) clause))) (first-words first first-long) kept) in
           omega (arith, lead-is, first-long, room-leading F G A (s .base) (held-low h) d τ (general h clause (c .head - c .start) (c .bodies) d q room short (fitted .more) (z .1)) (first-of (d .body)) k, h .leading, first-size, q .head, under)
 
-      module _ (more : Added) (r : Bounds) (sum : Summed s more grown count r) (how : Thrifty-adds clause s c first more ⊎ Counted-adds heap cells s c first more) where
+      -- what comes by what is bound
+      module _ {extra places′ times′ : ℕ} (charged : Charged s grown count extra places′ times′) where
+        gained : weigh (gain τ) (flat (F ∷ (G ++ A))) ≤ extra
+        gained = subst (λ n. weigh (gain τ) (flat (F ∷ (G ++ A))) ≤ n) (inv (charged .extra-is)) (elim (charged .for-is) [
+          | inl e ↦ subst (λ n. weigh (gain τ) (flat (F ∷ (G ++ A))) ≤ n * (grown .nodes - 1)) (inv e)
+              (gain-few (F ∷ (G ++ A)) (s .base) (s .most) (held-low h) seldom-now τ (z .0) agree (trail tables) count moved (grown .nodes) (λ j l. y .grown .long known j l (z .0) (z .1)))
+          | inr e ↦ subst (λ n. weigh (gain τ) (flat (F ∷ (G ++ A))) ≤ n * (grown .nodes - 1)) (inv e) (weigh-all-most (gain τ) (grown .nodes - 1) (s .variables) (F ∷ (G ++ A)) (λ v i. omega (arith, longest v i)) few-places)
+        ])
+
+        spread : weigh (λ v. places (τ v)) (flat (F ∷ (G ++ A))) ≤ places′
+        spread = omega (arith, weigh-all-most (λ v. places (τ v)) (grown .variables) (s .variables) (F ∷ (G ++ A)) widest few-places, charged .places-are)
+
+        multiplied : (x : ℕ) → weigh (λ v. times x (τ v)) (flat (F ∷ (G ++ A))) ≤ s .most * times′
+        multiplied x = subst (λ n. weigh (λ v. times x (τ v)) (flat (F ∷ (G ++ A))) ≤ s .most * n) (inv (charged .times-are))
+            (often-under (F ∷ (G ++ A)) (s .base) (s .most) (held-low h) seldom-now τ (z .0) agree (trail tables) count moved x (grown .times) (y .old known (z .0) (z .1) x) (y .new known (z .0) (z .1) x))
+
+      module _ (more : Added) (r : Bounds) {extra places′ times′ : ℕ} (charged : Charged s grown count extra places′ times′) (sum : Summed s more extra places′ times′ r) (how : Thrifty-adds clause s c first more ⊎ Counted-adds heap cells s c first more) where
         bare : Thrifty-adds clause s c first more → Thrifty (d .head) (flat (d .body))
         bare t = subst (λ x. Thrifty x (flat (d .body))) head-words (subst (Thrifty (heap-nodes (take (head-long c) clause))) body-words (t .thrifty))
 
@@ -180,18 +183,18 @@ module _ {words before levels : List ℕ} {s : Standing} {f : Expr} {g a : Goal}
 
         goal-bound : nodes (map (apply τ) body ++ map (apply τ) G) ≤ r .nodes
         goal-bound = elim how [
-          | inl t ↦ omega (arith, room-thrifty F G A (s .base) (held-low h) d τ (general h clause (c .head - c .start) (c .bodies) d q room short (fitted .more) (z .1)) (s .nodes) (s .found) (sum .charged * (grown .nodes - 1)) (s .variables * grown .variables) (gained (sum .charged) (sum .charged-is)) spread (sizes-now .0) (sizes-now .1) (bare t), sum .nodes-are, t .nodes-are, t .less-is, q .head, head-length clause (c .head - c .start) (c .bodies) d q, clause-long, ordered .0, ordered .1)
-          | inr k ↦ omega (arith, room-counted F G A (s .base) (held-low h) d τ (general h clause (c .head - c .start) (c .bodies) d q room short (fitted .more) (z .1)) (s .nodes) (s .found) (sum .charged * (grown .nodes - 1)) (s .variables * grown .variables) (gained (sum .charged) (sum .charged-is)) spread (sizes-now .0) (sizes-now .1), sum .nodes-are, k .less-is, counted-nodes k)
+          | inl t ↦ omega (arith, room-thrifty F G A (s .base) (held-low h) d τ (general h clause (c .head - c .start) (c .bodies) d q room short (fitted .more) (z .1)) (s .nodes) (s .found) extra places′ (gained charged) (spread charged) (sizes-now .0) (sizes-now .1) (bare t), sum .nodes-are, t .nodes-are, t .less-is, q .head, head-length clause (c .head - c .start) (c .bodies) d q, clause-long, ordered .0, ordered .1)
+          | inr k ↦ omega (arith, room-counted F G A (s .base) (held-low h) d τ (general h clause (c .head - c .start) (c .bodies) d q room short (fitted .more) (z .1)) (s .nodes) (s .found) extra places′ (gained charged) (spread charged) (sizes-now .0) (sizes-now .1), sum .nodes-are, k .less-is, counted-nodes k)
         ]
 
         answer-bound : nodes (map (apply τ) A) ≤ r .found
-        answer-bound = omega (arith, room-answer F G A (s .base) (held-low h) d τ (general h clause (c .head - c .start) (c .bodies) d q room short (fitted .more) (z .1)) (s .nodes) (s .found) (sum .charged * (grown .nodes - 1)) (s .variables * grown .variables) (gained (sum .charged) (sum .charged-is)) spread (sizes-now .0) (sizes-now .1), sum .found-is)
+        answer-bound = omega (arith, room-answer F G A (s .base) (held-low h) d τ (general h clause (c .head - c .start) (c .bodies) d q room short (fitted .more) (z .1)) (s .nodes) (s .found) extra places′ (gained charged) (spread charged) (sizes-now .0) (sizes-now .1), sum .found-is)
 
         places-bound : places-all (map (apply τ) body ++ map (apply τ) (G ++ A)) ≤ r .variables
         places-bound = elim (sum .spread) [
           | inl e ↦ elim how [
-            | inl t ↦ omega (arith, places-thrifty F G A (s .base) (held-low h) d τ (general h clause (c .head - c .start) (c .bodies) d q room short (fitted .more) (z .1)) (s .nodes) (s .found) (sum .charged * (grown .nodes - 1)) (s .variables * grown .variables) (gained (sum .charged) (sum .charged-is)) spread (sizes-now .0) (sizes-now .1) (bare t), e, t .fresh-is ∙ ap₂ fresh head-words body-words)
-            | inr k ↦ omega (arith, places-counted F G A (s .base) (held-low h) d τ (general h clause (c .head - c .start) (c .bodies) d q room short (fitted .more) (z .1)) (s .nodes) (s .found) (sum .charged * (grown .nodes - 1)) (s .variables * grown .variables) (gained (sum .charged) (sum .charged-is)) spread (sizes-now .0) (sizes-now .1), e, counted-places k)
+            | inl t ↦ omega (arith, places-thrifty F G A (s .base) (held-low h) d τ (general h clause (c .head - c .start) (c .bodies) d q room short (fitted .more) (z .1)) (s .nodes) (s .found) extra places′ (gained charged) (spread charged) (sizes-now .0) (sizes-now .1) (bare t), e, t .fresh-is ∙ ap₂ fresh head-words body-words)
+            | inr k ↦ omega (arith, places-counted F G A (s .base) (held-low h) d τ (general h clause (c .head - c .start) (c .bodies) d q room short (fitted .more) (z .1)) (s .nodes) (s .found) extra places′ (gained charged) (spread charged) (sizes-now .0) (sizes-now .1), e, counted-places k)
           ]
           | inr e ↦ omega (arith, ap places-all together, places-all-few (map (apply τ) (body ++ G) ++ map (apply τ) A), nodes-append (map (apply τ) (body ++ G)) (map (apply τ) A), ap nodes apart, goal-bound, answer-bound, e)
         ]
@@ -202,7 +205,7 @@ module _ {words before levels : List ℕ} {s : Standing} {f : Expr} {g a : Goal}
           | inr (some, own, most) ↦ elim how [
             | inl t ↦ record {
               each = λ x. often-thrifty F G A (s .base) (held-low h) d τ (general h clause (c .head - c .start) (c .bodies) d q room short (fitted .more) (z .1)) (bare t) x (r .most)
-                  (omega (arith, multiplied x, most)) (omega (arith, own, t .fresh-is ∙ ap₂ fresh head-words body-words));
+                  (omega (arith, multiplied charged x, most)) (omega (arith, own, t .fresh-is ∙ ap₂ fresh head-words body-words));
             }
             | inr k ↦ absurd (some (k .less-is))
           ]
@@ -231,20 +234,3 @@ module _ {words before levels : List ℕ} {s : Standing} {f : Expr} {g a : Goal}
           where
             any : (θ : Subst) → Solved heap cells θ → (l : Goal) → map (apply θ) l ≡ map (apply (z .0)) l
             any θ y l = map-same (λ e. apply-on θ (z .0) e (λ v i. solved-one (fitted .more .made) (z .1) θ y v)) l
-
--- of the heap that is under way
-module _ {book words before levels : List ℕ} {s : Standing} {c : Span} {heap′ cells tables : List ℕ} {count : ℕ} {f : Expr} {g a : Goal} {d : Clause} (u : Under-way book words before levels s c heap′ cells tables count f g a d) where
-  words-long : length (span-words book c) ≡ c .end - c .start
-  words-long = length-take-le (c .end - c .start) (drop (c .start) book) (omega (arith, length-drop (c .start) book, u .placed .within))
-
-  pub first-is : c .figure .first ≡ length (first-of (body-rows heap′ s c))
-  first-is = u .figure .leads d (u .placed .clause) ∙ inv (first-long (u .held) (span-words book c) c d (u .placed .clause) (u .room) (heap-short u) words-long (u .placed .begins, u .placed .ends)) ∙ ap (λ l. length (first-of (body-rows l s c))) (inv (u .is))
-
-  pub bounds-hold : (grown : Weight) → Weighs heap′ cells (s .base) (trail tables) count grown → (more : Added) → Adds (span-words book c) heap′ cells s c (length (first-of (body-rows heap′ s c))) more → (r : Bounds) → Summed s more grown count r → Bounded heap′ cells levels s c r
-  bounds-hold grown y more x r sum =
-      subst (λ l. Bounded l cells levels s c r) (inv (u .is))
-      (core (subst (λ l. Fitted l before s cells tables count) (u .is) (u .fitted)) (subst (λ l. Weighs l cells (s .base) (trail tables) count grown) (u .is) y) (subst (λ l. Adds (span-words book c) l cells s c (length (first-of (body-rows l s c))) more) (u .is) x))
-    where
-      core : Fitted (laid (used words s) (s .base) (span-words book c)) before s cells tables count → Weighs (laid (used words s) (s .base) (span-words book c)) cells (s .base) (trail tables) count grown
-          → Adds (span-words book c) (laid (used words s) (s .base) (span-words book c)) cells s c (length (first-of (body-rows (laid (used words s) (s .base) (span-words book c)) s c))) more → Bounded (laid (used words s) (s .base) (span-words book c)) cells levels s c r
-      core fitted y x = bounded-so (u .held) (span-words book c) c d (u .placed .clause) (u .room) (heap-short u) words-long (u .placed .begins, u .placed .ends) fitted grown y (sum .grown-known) more r sum (x .how) (x .names) (x .few)

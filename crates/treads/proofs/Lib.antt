@@ -7,3 +7,4 @@ mod Dropping
 mod Summing
 mod Firsts
 mod Bounding
+mod UnderWay

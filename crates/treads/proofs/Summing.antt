@@ -16,13 +16,24 @@ use Rattle.figures.specs.Figures.{first-of, Figure-of}
 use Rattle.figures.specs.FigureLaws.{known-most}
 use Rattle.heapgoals.specs.declared.Standing.{Standing}
 use Rattle.treads.specs.Stepping.{Under-way, body-at, body-rows}
-use Rattle.treads.specs.Adding.{span-words, head-long, Led, Thrifty-adds, Adds}
+use Rattle.treads.specs.Adding.{span-words, head-long, Led, Thrifty-adds, Adds, Charged}
 use Rattle.treads.specs.declared.sizing.Span.{Span}
 use Rattle.treads.proofs.Going.{span-few}
-use Rattle.treads.proofs.Bounding.{first-is}
+use Rattle.treads.proofs.UnderWay.{first-is}
 
 pub few-product : (a b m : ℕ) → a ≤ 8192 → b ≤ m → a * b ≤ 8192 * m
 few-product a b m l h = omega (arith, mul-le-mul-right {m = a} {n = 8192} b l, h)
+
+-- where nothing is bound
+pub nothing-charged : (s : Standing) (count : ℕ) → Charged s (record { nodes = 1; variables = 1; times = 1 }) count 0 (s .variables) 1
+nothing-charged s count = record {
+  known = λ e. omega (arith, e);
+  for = s .most * count;
+  for-is = inl refl;
+  extra-is = omega arith;
+  places-are = omega arith;
+  times-are = refl;
+}
 
 pub thrifty-adds : (clause : List ℕ) (s : Standing) (c : Span) (first r : ℕ) → Figure-of clause (head-long c) (c .bodies) (c .figure) → (c .figure .fresh ≡ 65535 → ⊥) → Led (s .least) (c .figure .whole) (head-long c) (c .figure .first) r → c .figure .first ≡ first
     → Thrifty-adds clause s c first (record { nodes = c .end - c .head; less = head-long c; variables = c .figure .fresh; least = r; names = c .figure .names })

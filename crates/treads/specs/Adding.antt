@@ -55,18 +55,27 @@ pub record Adds (clause heap cells : List ℕ) (s : Standing) (c : Span) (first 
 abbrev pub Often : Standing → Added → ℕ → ℕ → ℕ → Type 0
 Often s more times variables r = ((r ≡ variables) ⊎ ((more .less ≡ 0 → ⊥) × (more .variables ≤ r) × (s .most * times ≤ r))) × (r ≤ variables)
 
--- the bounds, where there is room; so many places of goal and answer are charged for what is bound
-pub record Summed (s : Standing) (more : Added) (grown : Weight) (count : ℕ) (r : Bounds) : Type 0 where
-  pub charged : ℕ
-  pub charged-is : (charged ≡ s .most * count) ⊎ (charged ≡ s .variables)
+-- the bounds, where there is room, by so many nodes more, so many places of variables, and so many times as many of any one
+pub record Summed (s : Standing) (more : Added) (extra places times : ℕ) (r : Bounds) : Type 0 where
   pub added-known : more .nodes ≡ 65535 → ⊥
-  pub grown-known : Known (plain grown)
-  pub nodes-are : r .nodes + more .less ≡ s .nodes + charged * (grown .nodes - 1) + more .nodes
-  pub found-is : r .found ≡ s .found + charged * (grown .nodes - 1)
+  pub nodes-are : r .nodes + more .less ≡ s .nodes + extra + more .nodes
+  pub found-is : r .found ≡ s .found + extra
   pub goal-room : r .nodes ≤ 4096
   pub answer-room : r .found ≤ 4096
-  pub spread : (r .variables ≡ more .variables + s .variables * grown .variables) ⊎ (r .variables ≡ r .nodes + r .found)
+  pub spread : (r .variables ≡ more .variables + places) ⊎ (r .variables ≡ r .nodes + r .found)
   pub few : r .variables ≤ r .nodes + r .found
-  pub often : Often s more (grown .times) (r .variables) (r .most)
+  pub often : Often s more times (r .variables) (r .most)
   pub least-is : r .least ≡ more .least
   pub names-are : r .names ≡ more .names
+
+-- so much comes by what is bound; so many places of goal and answer are charged for it
+pub record Charged (s : Standing) (grown : Weight) (count extra places times : ℕ) : Type 0 where
+  pub known : Known (plain grown)
+  pub for : ℕ
+  pub for-is : (for ≡ s .most * count) ⊎ (for ≡ s .variables)
+  pub extra-is : extra ≡ for * (grown .nodes - 1)
+  pub places-are : places ≡ s .variables * grown .variables
+  pub times-are : times ≡ grown .times
+
+abbrev pub Grows : Standing → Added → Weight → ℕ → Bounds → Type 0
+Grows s more grown count r = (extra : ℕ) × (places : ℕ) × (times : ℕ) × Charged s grown count extra places times × Summed s more extra places times r

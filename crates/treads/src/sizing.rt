@@ -19,7 +19,7 @@ ghost use Rattle.figures.specs.Figures.{first-of};
 ghost use Rattle.trials.specs.Trying.{trail};
 ghost use Rattle.heapgoals.specs.HoldLaws.{Fore};
 ghost use Rattle.treads.specs.Stepping.{Under-way, body-rows, Bounded};
-ghost use Rattle.treads.specs.Adding.{span-words, Led, Adds, Often, Summed};
+ghost use Rattle.treads.specs.Adding.{span-words, Led, Adds, Often, Summed, Grows};
 
 // Where a clause stands in the book, where its head ends, how many formulas its body has, and its figure.
 pub struct Span {
@@ -129,18 +129,15 @@ fn places_bound(s: Standing, count: usize) -> usize
     smaller(s.most * count, s.variables)
 }
 
-fn bounded(s: Standing, more: Added, grown: Weight, count: usize) -> Bounds
-    requires { ⌜ (s .variables ≤ 8192) × (s .most ≤ 8192) × (s .nodes ≤ 4096) × (s .found ≤ 4096) × (more .nodes ≤ 65535) × (more .variables ≤ 65535) × (count ≤ 8448) ⌝ }
-    requires { ⌜ (1 ≤ grown .nodes) × (grown .nodes ≤ 65535) × (grown .variables ≤ grown .nodes) × (grown .times ≤ 553648129) ⌝ }
-    ensures { λ r. ⌜ ((r .nodes ≡ 65535 → ⊥) → Summed s more grown count r) ⌝ }
+// What is bound adds so many nodes to goal and answer each, and gives them so many places of variables; any one variable is so many times as often by it.
+fn bounded(s: Standing, more: Added, extra: usize, places: usize, times: usize) -> Bounds
+    requires { ⌜ (s .most ≤ 8192) × (s .nodes ≤ 4096) × (s .found ≤ 4096) × (more .nodes ≤ 65535) × (more .variables ≤ 65535) ⌝ }
+    requires { ⌜ (extra ≤ 536862720) × (places ≤ 536862720) × (times ≤ 553648129) ⌝ }
+    ensures { λ r. ⌜ ((r .nodes ≡ 65535 → ⊥) → Summed s more extra places times r) ⌝ }
 {
     if more.nodes == OVER {
         return unbounded();
     }
-    if grown.nodes == OVER {
-        return unbounded();
-    }
-    let extra = places_bound(s, count) * (grown.nodes - 1);
     let total = s.nodes + extra + more.nodes;
     if total < more.less {
         return unbounded();
@@ -153,18 +150,28 @@ fn bounded(s: Standing, more: Added, grown: Weight, count: usize) -> Bounds
     if 4096 < found {
         return unbounded();
     }
-    let variables = smaller(
-        more.variables + s.variables * grown.variables,
-        nodes + found,
-    );
+    let variables = smaller(more.variables + places, nodes + found);
     Bounds {
         nodes,
         found,
         variables,
-        most: often(s, more, grown.times, variables),
+        most: often(s, more, times, variables),
         least: more.least,
         names: more.names,
     }
+}
+
+// By what a trial has bound, so many variables, which weigh so much.
+fn grown_by(s: Standing, more: Added, grown: Weight, count: usize) -> Bounds
+    requires { ⌜ (s .variables ≤ 8192) × (s .most ≤ 8192) × (s .nodes ≤ 4096) × (s .found ≤ 4096) × (more .nodes ≤ 65535) × (more .variables ≤ 65535) × (count ≤ 8448) ⌝ }
+    requires { ⌜ (1 ≤ grown .nodes) × (grown .nodes ≤ 65535) × (grown .variables ≤ grown .nodes) × (grown .times ≤ 553648129) ⌝ }
+    ensures { λ r. ⌜ ((r .nodes ≡ 65535 → ⊥) → Grows s more grown count r) ⌝ }
+{
+    if grown.nodes == OVER {
+        return unbounded();
+    }
+    let extra = places_bound(s, count) * (grown.nodes - 1);
+    bounded(s, more, extra, s.variables * grown.variables, grown.times)
 }
 
 pub fn sized(
@@ -181,6 +188,10 @@ pub fn sized(
     ensures levels { λ _. ⌜ Fore (now (levels .entry)) (now (levels .exit)) ⌝ }
     ensures bounds { λ r. ⌜ ((r .nodes ≡ 65535 → ⊥) → (book words before : List ℕ) (f : Expr) (g a : Goal) (d : Clause) → Under-way book words before (now (levels .exit)) s c (now (heap .entry)) (now (cells .entry)) (now (rows .entry)) count f g a d → Bounded (now (heap .entry)) (now (cells .entry)) (now (levels .exit)) s c r) ⌝ }
 {
+    let more = body_adds(heap, cells, &mut levels[514..1028], s, c);
+    if count == 0 {
+        return bounded(s, more, 0, s.variables, 1); // most steps bind the clause's variables alone
+    }
     let grown = weight_of(
         heap,
         cells,
@@ -189,6 +200,5 @@ pub fn sized(
         count,
         known,
     );
-    let more = body_adds(heap, cells, &mut levels[514..1028], s, c);
-    bounded(s, more, grown, count)
+    grown_by(s, more, grown, count)
 }
