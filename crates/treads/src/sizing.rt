@@ -190,7 +190,7 @@ pub fn sized(
 {
     let more = body_adds(heap, cells, &mut levels[514..1028], s, c);
     if count == 0 {
-        return bounded(s, more, 0, s.variables, 1); // most steps bind the clause's variables alone
+        return bounded(s, more, 0, s.variables, 1); // where a formula only asks, the clause's variables alone are bound
     }
     let grown = weight_of(
         heap,
