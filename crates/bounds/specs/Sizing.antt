@@ -41,6 +41,7 @@ abbrev pub plain : Weight → Size
 plain r = record { nodes = r .nodes; variables = r .variables }
 
 -- The first variables of a trail weigh so much at most. Where they were once each, a variable below the base is as often as in what they stand for, and once more, where it was itself; one that is not below it was nowhere.
+-- There is room for one and, for each of the 8,448 variables that a trail may have, the 65,535 that are not known.
 pub record Weighs (heap cells : List ℕ) (base : ℕ) (trail : List ℕ) (count : ℕ) (r : Weight) : Type 0 where
   pub grown : Grown heap cells trail count 4096 (plain r)
   pub one : Known (plain r) → 1 ≤ r .variables
