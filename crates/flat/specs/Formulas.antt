@@ -18,6 +18,7 @@ use Rattle.flat.specs.Flat.{ConstantOf, Flat, flat}
 pub listed-left : {F : Type 0} (x : F) (a b : List F) → Listed x a → Listed x (a ++ b)
 listed-left x (y ∷ a) b (inl e) = inl e
 listed-left x (y ∷ a) b (inr i) = inr (listed-left x a b i)
+listed-left {F = F} x [] b x'' = elim x'' [ ]
 
 pub listed-right : {F : Type 0} (x : F) (a b : List F) → Listed x b → Listed x (a ++ b)
 listed-right x [] b i = i
@@ -26,6 +27,7 @@ listed-right x (y ∷ a) b i = inr (listed-right x a b i)
 pub listed-map : {F G : Type 0} (h : F → G) (x : F) (a : List F) → Listed x a → Listed (h x) (map h a)
 listed-map h x (y ∷ a) (inl e) = inl (ap h e)
 listed-map h x (y ∷ a) (inr i) = inr (listed-map h x a i)
+listed-map {F = F} {G = G} h x [] x'' = elim x'' [ ]
 
 -- each letter before each word
 abbrev pub before : List Node → List Expr → List Expr
@@ -35,6 +37,7 @@ before (x ∷ letters) words = map (λ w. x ∷ w) words ++ before letters words
 listed-before : (x : Node) (w : Expr) (letters : List Node) (words : List Expr) → Listed x letters → Listed w words → Listed (x ∷ w) (before letters words)
 listed-before x w (y ∷ letters) words (inl e) j = listed-left (x ∷ w) (map (λ w. y ∷ w) words) (before letters words) (subst (λ z. Listed (z ∷ w) (map (λ w. y ∷ w) words)) (inv e) (listed-map (λ w. y ∷ w) w words j))
 listed-before x w (y ∷ letters) words (inr i) j = listed-right (x ∷ w) (map (λ w. y ∷ w) words) (before letters words) (listed-before x w letters words i j)
+listed-before x w [] words x3 j = elim x3 [ ]
 
 -- the words of n letters
 abbrev pub words : List Node → ℕ → List Expr
@@ -101,6 +104,7 @@ numbered-low seen (var w ∷ e) same v i =
       | inr j ↦ omega (arith, numbered-low (grow seen w) e (tail-eq_of_cons-eq same) v j, more)
     ]
 numbered-low seen (sym s ∷ e) same v i = omega (arith, numbered-low seen e (tail-eq_of_cons-eq same) v i)
+numbered-low seen [] same v i = elim i [ ]
 
 -- a row of n variables and constants has n nodes
 flat-length : (cs : List ℕ) {n : ℕ} (e : Expr) → Row n e → Symbols (ConstantOf cs) e → length e ≡ n
@@ -123,3 +127,4 @@ listed-formula ps cs f (flat {p = p} {a = a} {e = e} l r s) same = of ps l
     of : (ps : List Symbol) → Listed (predicate p a) ps → Listed (sym (predicate p a) ∷ e) (formulas ps cs)
     of (s ∷ ps) (inl z) = listed-left _ (of_predicate cs s) (formulas ps cs) (subst (λ x. Listed (sym (predicate p a) ∷ e) (of_predicate cs x)) z here)
     of (s ∷ ps) (inr i) = listed-right _ (of_predicate cs s) (formulas ps cs) (of ps i)
+    of [] x4 = elim x4 [ ]

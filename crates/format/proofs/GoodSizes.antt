@@ -77,7 +77,7 @@ module _ (form : Form) (tail : List Record) where
   nodes-sized state [] s = record { size = zero-le; below = tt; later = s }
   nodes-sized state (var v ∷ e) s =
       let z = and_both (ltb state.nodes (node_limit form)) (ltb v (variable_limit form)) s.0 in
-      nodes-more state (var v) e (ltb-true state.nodes (node_limit form) z.0) (ltb-true v (variable_limit form) z.1, tt) (nodes-sized _ e s.1)
+      nodes-more state (var v) e (ltb-true state.nodes (node_limit form) z.0) (ltb-true v (variable_limit form) z.1, tt) (nodes-sized (after state (node_record (var v))) e s.1)
   nodes-sized state (sym (constant c) ∷ e) s = nodes-more state (sym (constant c)) e (ltb-true state.nodes (node_limit form) s.0) tt (nodes-sized _ e s.1)
   nodes-sized state (sym (compound f n) ∷ e) s = nodes-more state (sym (compound f n)) e (ltb-true state.nodes (node_limit form) s.0) tt (nodes-sized _ e s.1)
   nodes-sized state (sym (predicate p n) ∷ e) s = nodes-more state (sym (predicate p n)) e (ltb-true state.nodes (node_limit form) s.0) tt (nodes-sized _ e s.1)
@@ -89,7 +89,7 @@ module _ (form : Form) (tail : List Record) where
   unfolding is_in_size
   nodes-back state [] k = k.later
   nodes-back state (var v ∷ e) k =
-      (simp (lt-ltb state.nodes (node_limit form) (omega (arith, k.size)), lt-ltb v (variable_limit form) k.below.0), nodes-back _ e (nodes-less state (var v) e k.below.1 k))
+      (simp (lt-ltb state.nodes (node_limit form) (omega (arith, k.size)), lt-ltb v (variable_limit form) k.below.0), nodes-back (after state (node_record (var v))) e (nodes-less state (var v) e k.below.1 k))
   nodes-back state (sym (constant c) ∷ e) k = (lt-ltb state.nodes (node_limit form) (omega (arith, k.size)), nodes-back _ e (nodes-less state (sym (constant c)) e k.below k))
   nodes-back state (sym (compound f n) ∷ e) k = (lt-ltb state.nodes (node_limit form) (omega (arith, k.size)), nodes-back _ e (nodes-less state (sym (compound f n)) e k.below k))
   nodes-back state (sym (predicate p n) ∷ e) k = (lt-ltb state.nodes (node_limit form) (omega (arith, k.size)), nodes-back _ e (nodes-less state (sym (predicate p n)) e k.below k))

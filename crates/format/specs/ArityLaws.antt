@@ -18,6 +18,7 @@ use Rattle.format.specs.Arities.{Use, use_of, node_uses, goal_uses, book_uses, r
 pub used-left : (p n : ℕ) (a b : List Use) → Used p n a → Used p n (a ++ b)
 used-left p n (u ∷ a) b (inl e) = inl e
 used-left p n (u ∷ a) b (inr x) = inr (used-left p n a b x)
+used-left p n [] b x' = elim x' [ ]
 
 pub used-right : (p n : ℕ) (a b : List Use) → Used p n b → Used p n (a ++ b)
 used-right p n [] b x = x

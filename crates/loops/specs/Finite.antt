@@ -30,6 +30,7 @@ without x (z ∷ l) (inr m) =
       fewer = ap suc r.fewer;
       stays = λ y. elim [ inl e ↦ inr (inl e) | inr n ↦ elim (r.stays y n) [ inl e ↦ inl e | inr o ↦ inr (inr o) ] ];
     }
+without {F = F} x [] x'' = elim x'' [ ]
 
 module _ {F : Type 0} (next : List F → Option (List F)) (laws : Successor next) (q : List F) where
   -- x began the goal of an earlier step, every goal since is longer than what stood behind it, and that is n formulas at most

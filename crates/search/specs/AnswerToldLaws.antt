@@ -25,9 +25,11 @@ use Rattle.search.specs.AnswerTold.{NextWith, TooLong, ClosingWith, at_20_to_26,
 -- the goal goes on as without an answer
 next-alone : (P : Book) (g a : Goal) (k : ℕ) (h b : Goal) → NextWith P g a k h b → Next P g k h
 next-alone P (f ∷ g) a k h b (c, i, s) = (c, i, carried-goal f g a c h b s)
+next-alone P mathlib.Core.List.[] a k h b x' = elim x' [ ]
 
 carries_with : (P : Book) (q : Goal) (t : ℕ) (g a : Goal) (k : ℕ) (h b : Goal) → Carries P q t g a → NextWith P g a k h b → Carries P q (suc t) h b
 carries_with P q t (f ∷ g) a k h b x (c, i, s) = one_more k c x i s
+carries_with P q t mathlib.Core.List.[] a k h b x x3 = elim x3 [ ]
 
 fits-true : (h : Goal) → ¬ TooBig h → fits h ≡ true
 fits-true h n = cases (fits h) (λ e. e) (λ e. absurd (n ((big_iff h).0 e)))
@@ -48,6 +50,7 @@ module _ (P : Book) (good : Clauses P) (q : Goal) (formulas : Formulas q) (numbe
       let on = ap goal_in ((next_iff P good (f ∷ g) (path-formulas P good q formulas t (f ∷ g) e) k h).0 n) in
       let (j, c, i, s) = carried_on P good q formulas t f g h e on in
       (c, subst (λ m. First f P m c) (first_one P f j k c n.0 i n.1).0 i, s)
+  next_both t mathlib.Core.List.[] k h e n = elim n [ ]
 
   module _ (budget : ℕ) where
     -- The states and their answers are the detector's and the path's.

@@ -8,7 +8,7 @@ use Rattle.loops.specs.Detect.{detected?, judge}
 use Rattle.search.specs.Next.{Book, Goal}
 use Rattle.search.specs.Room.{fits}
 use Rattle.search.specs.Known.{alike?, known?, stuck_code}
-use Rattle.search.specs.Traces.{v, con, fun, atom, ◌:_◌, feeds, pipe, p, e, h, w, table}
+use Rattle.search.specs.Traces.{v, con, fun, atom, ◌:-◌, feeds, pipe, p, e, h, w, table}
 use Rattle.search.specs.Answer.{Answered, closed, small, next_answer, answered_from, answered}
 
 -- the answers of P1 to P9, in their order

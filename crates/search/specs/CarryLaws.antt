@@ -23,6 +23,7 @@ use Rattle.search.specs.AnswerLaws.{next-answer-whole, answer-zero, answer-next}
 in-beginning : (v : ℕ) (g a : List Expr) → InAny v g → InAny v (g ++ a)
 in-beginning v (f ∷ g) a (inl i) = inl i
 in-beginning v (f ∷ g) a (inr i) = inr (in-beginning v g a i)
+in-beginning v [] a x' = elim x' [ ]
 
 -- the beginning of what is numbered together is numbered by itself
 number-front : (h b front rest : Goal) → h ++ b ≡ number_all [] (front ++ rest) → length b ≡ length rest → h ≡ number_all [] front

@@ -24,10 +24,12 @@ use Rattle.search.specs.DerivationLaws.{map-after, map-itself, after-substitutio
 first-among : (P : Book) (f : Expr) (k : ℕ) (c : Clause) → FirstUnifying f P k c → Among c P
 first-among (d ∷ P) f zero c p = inl (inv p.0)
 first-among (d ∷ P) f (suc k) c p = inr (first-among P f k c p.1)
+first-among [] f k c p = elim p [ ]
 
 every-among : (Q : Expr → Type 0) (F : Expr → Expr) (l : List Expr) → Every Q (map F l) → (b : Expr) → Among b l → Q (F b)
 every-among Q F (x ∷ l) p b (inl e) = subst (λ y. Q (F y)) (inv e) p.0
 every-among Q F (x ∷ l) p b (inr i) = every-among Q F l p.1 b i
+every-among Q F [] p b x'' = elim x'' [ ]
 
 -- what follows holds wherever the clauses hold
 pub follows-model : (P : Book) (M : Expr → Type 0) → Model P M → {f : Expr} → Follows P f → M f

@@ -111,6 +111,7 @@ none-at (c ∷ P) f n (suc j) l m = none-at P f n.1 j (omega arith) m
 known_at : (P : Book) (f : Expr) → Known P f → (j : ℕ) × (j < length P) × Alike f (clause_at P j).head
 known_at (c ∷ P) f (inl a) = (0, omega arith, a)
 known_at (c ∷ P) f (inr k) = let h = known_at P f k in (suc h.0, omega (arith, h.1), h.2)
+known_at [] f x' = elim x' [ ]
 
 unlike_at : (P : Book) (f : Expr) → ¬ Known P f → (j : ℕ) → j < length P → ¬ Alike f (clause_at P j).head
 unlike_at [] f n j l a = omega arith

@@ -56,6 +56,7 @@ permuting σ r = let p = renaming-permutation σ r in (p.0, p.1, λ e. apply-on 
 in-any-named : (ρ : ℕ → ℕ) (v : ℕ) (h : List Expr) → InAny v (map (apply (names ρ)) h) → (w : ℕ) × InAny w h × (v ≡ ρ w)
 in-any-named ρ v (e ∷ h) (inl i) = let j = in-apply v (names ρ) e i in (j.0, inl j.1, elim j.2 [ inl p ↦ p | inr p ↦ absurd p ])
 in-any-named ρ v (e ∷ h) (inr i) = let j = in-any-named ρ v h i in (j.0, inr j.1, j.2)
+in-any-named ρ v [] x' = elim x' [ ]
 
 -- names that document 000 allows are apart from the goal's own
 standard-apart : (σ : Subst) (g h : List Expr) (s : Standard σ g h) → Apart (λ v. v) (permuting σ s.renaming).0 g h
@@ -77,10 +78,12 @@ in-above : (v : ℕ) (e : Expr) → In v e → v < above e
 in-above v (var w ∷ e) (inl p) = omega arith
 in-above v (var w ∷ e) (inr i) = omega (arith, in-above v e i)
 in-above v (sym s ∷ e) i = in-above v e i
+in-above v [] i = elim i [ ]
 
 in-above-all : (v : ℕ) (g : List Expr) → InAny v g → v < above_all g
 in-above-all v (f ∷ g) (inl i) = omega (arith, in-above v f i)
 in-above-all v (f ∷ g) (inr i) = omega (arith, in-above-all v g i)
+in-above-all v [] x' = elim x' [ ]
 
 standard-names : (g h : List Expr) → (σ : Subst) × Standard σ g h
 standard-names g h =
@@ -181,6 +184,7 @@ first_iff f af (d ∷ P) good (suc k) c =
 first-atomic : (f : Expr) (P : Book) → AtomicClauses P → (k : ℕ) (c : Clause) → First f P k c → Atomics (c.head ∷ c.body)
 first-atomic f (d ∷ P) good zero c p = subst (λ x. Atomics (x.head ∷ x.body)) p.0 good.0
 first-atomic f (d ∷ P) good (suc k) c p = first-atomic f P good.1 k c p.1
+first-atomic f [] good k c p = elim p [ ]
 
 -- of atomic formulas, document 000's resolution by the first clause is the next goal
 pub derived_iff : (P : Book) → AtomicClauses P → (g : Goal) → Atomics g → (k : ℕ) (h : Goal) → Derived P g k h ↔ Next P g k h
@@ -199,6 +203,7 @@ next-atomic P good (f ∷ g) goal k h (c, first, t) =
     let clause = first-atomic f P good k c first in
     let narrow = formulas-narrow (atomic-rename t.goal_names f goal.0) (atomic-rename t.clause_names c.head clause.0) in
     resolved-every Atomic atomic-rename f g c h clause.1 goal.1 t (atomic-apply t.unifier (general-terms narrow t.unifier t.general))
+next-atomic P good [] goal k h x'' = elim x'' [ ]
 
 -- So the path is document 000's derivation: at each step by the leftmost formula and the first clause that can be taken.
 

@@ -2,7 +2,7 @@
 -- for a variable; and the unifier that `unify` finds is one of document 000's.
 use Rattle.std.specs.Prelude.{ℕ, ◌≤◌, max, ◌≡◌, refl, ◌↔◌, [], ◌∷◌, ◌++◌}
 use Rattle.std.proofs.Common.{add-zero, arith, sym as inv, ap, ◌∙◌, subst, inl, inr, append-nil}
-use Rattle.std.proofs.Math.Logic.{Dec·and}
+use Rattle.std.proofs.Math.Logic.Dec.{and as dec_and}
 use Rattle.std.proofs.Math.Option.{none, some}
 use Rattle.terms.specs.Node.{Symbol, constant, compound, predicate, var, sym, Expr}
 use Rattle.terms.specs.Row.{Row, row_end, row_var, row_sym}
@@ -30,6 +30,7 @@ module _ (Q : Symbol → Type 0) where
   symbols-value γ v (var w ∷ e) (inl p) q = subst (λ u. Symbols Q (γ u)) (inv p) (symbols-split (γ w) (apply γ e) q).0
   symbols-value γ v (var w ∷ e) (inr i) q = symbols-value γ v e i (symbols-split (γ w) (apply γ e) q).1
   symbols-value γ v (sym s ∷ e) i q = symbols-value γ v e i q.1
+  symbols-value γ v [] i q = elim i [ ]
 
 function? : (s : Symbol) → Dec (Function s)
 function? (constant c) = yes tt
@@ -39,7 +40,7 @@ function? (predicate p n) = no (λ x. x)
 functions? : (e : Expr) → Dec (Symbols Function e)
 functions? [] = yes tt
 functions? (var v ∷ e) = functions? e
-functions? (sym s ∷ e) = Dec·and (function? s) (functions? e)
+functions? (sym s ∷ e) = dec_and (function? s) (functions? e)
 
 -- γ where it has a term, and the identity elsewhere
 abbrev tidy : (γ : Subst) (v : ℕ) → Dec (Symbols Function (γ v)) → Expr

@@ -1,0 +1,15 @@
+use Prim.Native.Nat.{◌-◌, ◌≤◌}
+use native.Mathlib.Omega.{arith}
+use mathlib.Core.Path.{◌≡◌, refl, ◌∙◌}
+use lib.ListN.{length}
+use Rattle.words.specs.Columns.{CELLS}
+use Rattle.numbering.specs.Naming.{table, back}
+use Rattle.numbering.proofs.Names.{Upto, upto-start, upto-more, upto-end}
+use borrow.Author.Rules.{rules}
+use Rattle.numbering.proofs.renumber.Given as goal
+
+abbrev pub invariant-loop-i : goal.invariant-loop-i
+invariant-loop-i l = (l.i ≤ l.n) × (length l.words ≡ length l.initial.words) × (length l.rows ≡ CELLS) × (l.n ≤ length l.initial.words) × Upto l.initial.words l.words (table l.rows) (back l.rows) l.i l.count
+
+abbrev pub decreases-loop-i : goal.decreases-loop-i
+decreases-loop-i l = l.n - l.i

@@ -1,0 +1,22 @@
+use Prim.Native.Nat.{◌-◌, ◌≤◌}
+use native.Mathlib.Omega.{arith}
+use mathlib.Core.Path.{◌≡◌}
+use mathlib.Core.List.{[], ◌∷◌}
+use lib.ListN.{length}
+use Rattle.words.specs.Columns.{Only, same, after, CELLS, UP, PICK, FIRST}
+use Rattle.positions.specs.Starting.{Slots}
+use Rattle.positions.specs.Tables.{ups, picks, firsts}
+use borrow.Author.Rules.{rules}
+use Rattle.positions.proofs.starting.start.Goals as goal
+
+pub loop-p-init : goal.loop-p-init
+loop-p-init c = (search rules, search rules, (λ x h. absurd (omega arith)), same)
+
+pub seat-requires : goal.seat-requires
+seat-requires c = (search rules, c.requires.1, c.loop-p-test.true, c.loop-p.invariant.2)
+
+pub loop-p-preserved : goal.loop-p-preserved
+loop-p-preserved c = (search rules, search rules, c.seat.ensures.0, after c.loop-p.invariant.3 c.seat.ensures.1)
+
+pub returns : goal.returns
+returns c = ((λ x h. c.loop-p.invariant.2 x (omega (arith, h, c.loop-p-test.false))), c.loop-p.invariant.3)

@@ -1,0 +1,16 @@
+use Prim.Native.Nat.{◌-◌, ◌≤◌}
+use native.Mathlib.Omega.{arith}
+use mathlib.Core.Path.{◌≡◌}
+use mathlib.Core.List.{[], ◌∷◌}
+use lib.ListN.{length}
+use Rattle.words.specs.Columns.{Only, same, after, CELLS, UP, PICK, FIRST}
+use Rattle.positions.specs.Starting.{Slots}
+use Rattle.positions.specs.Tables.{ups, picks, firsts}
+use borrow.Author.Rules.{rules}
+use Rattle.positions.proofs.starting.start.Given as goal
+
+abbrev pub invariant-loop-p : goal.invariant-loop-p
+invariant-loop-p l = (l.p ≤ length l.words) × (length l.rows ≡ CELLS) × Slots l.words (ups l.words l.rows) (picks l.words l.rows) (firsts l.rows) l.p × Only (UP ∷ PICK ∷ FIRST ∷ []) l.initial.rows l.rows
+
+abbrev pub decreases-loop-p : goal.decreases-loop-p
+decreases-loop-p l = length l.words - l.p

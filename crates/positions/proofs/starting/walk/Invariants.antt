@@ -1,0 +1,15 @@
+use Prim.Native.Nat.{◌-◌, ◌<◌, ◌≤◌}
+use native.Mathlib.Omega.{arith}
+use native.Mathlib.Numerals.{add-one}
+use mathlib.Core.Path.{◌≡◌, ap, ◌∙◌}
+use lib.ListN.{get_or}
+use Rattle.words.specs.Columns.{column, END}
+use Rattle.positions.specs.Words.{walk_of}
+use borrow.Author.Rules.{rules}
+use Rattle.positions.proofs.starting.walk.Given as goal
+
+abbrev pub invariant-loop-i : goal.invariant-loop-i
+invariant-loop-i l = (l.i ≤ l.k) × (l.c ≡ walk_of (column END l.n l.rows) l.i l.from)
+
+abbrev pub decreases-loop-i : goal.decreases-loop-i
+decreases-loop-i l = l.k - l.i
