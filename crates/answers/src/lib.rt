@@ -1,4 +1,6 @@
 // An answer is held to what a query is held to, the numbers of its variables apart (document 02, C-14): in a copy each of them becomes 0.
+#![tactic(auto)]
+
 ghost use Rattle.std.specs.Prelude.{◌≡◌, ◌+◌, ◌<◌, ◌≤◌, length, get_or, take, ltb};
 ghost use Rattle.format.specs.Reading.{body_length};
 ghost use Rattle.printouts.specs.Answer.{clear_at, unnumbered, answer_verdict};

@@ -1,5 +1,7 @@
 // One clause applied: the body in the place of the goal's first formula, under the most general unifier of that formula and the head that `pick` has left;
 // and the answer behind the goal under the same unifier (document 02, C-11).
+#![tactic(auto)]
+
 ghost use Rattle.std.specs.Prelude.{◌≡◌, [], ◌∷◌, ◌+◌, ◌-◌, ◌≤◌, length, take, drop};
 ghost use Rattle.terms.specs.Node.{Expr};
 ghost use Rattle.terms.specs.Subst.{apply};
@@ -16,7 +18,7 @@ pub const FULL: usize = 65535;
 
 // How a row and a clause are cut: the row's goal has `goal` words, and its first formula `first` of them; the clause's head has `head` words. The next
 // goal has `formulas` formulas.
-#[derive(Drop)]
+#[derive(Clone, Copy)]
 pub struct Cut {
     pub goal: usize,
     pub first: usize,
@@ -25,7 +27,7 @@ pub struct Cut {
 }
 
 // How many words the next goal has, and behind it the next answer; FULL for what does not fit.
-#[derive(Drop)]
+#[derive(Clone, Copy)]
 pub struct Sizes {
     pub goal: usize,
     pub answer: usize,

@@ -10,7 +10,7 @@ use printer::print_goal;
 use running::run;
 
 // What the words on the command line ask for.
-#[derive(Drop)]
+#[derive(Clone, Copy)]
 pub(crate) struct Wanted {
     pub(crate) budget: u32,
     pub(crate) numbers: bool,

@@ -7,7 +7,7 @@ use picker::pick;
 use running::run;
 
 // The step at which the circle is entered, how many steps it has, and whether it is to be drawn.
-#[derive(Drop)]
+#[derive(Clone, Copy)]
 pub(crate) struct Circle {
     pub(crate) from: u32,
     pub(crate) span: u32,

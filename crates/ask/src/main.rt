@@ -1,5 +1,7 @@
 // `ask RULES QUERY`: rules and a question as text, and what the engine answers, in words. Everything that decides stands on proved entries: the texts are
 // read, run and printed by them.
+#![tactic(auto)]
+
 mod answers;
 mod areas;
 mod circle;
@@ -42,7 +44,7 @@ fn ask(typed: &[u8], book: &[u8], names: &[u8], rules: &[u8], w: Wanted) {
 }
 
 // A line of standard input, and whether the input ended with it.
-#[derive(Drop)]
+#[derive(Clone, Copy)]
 struct Line {
     length: usize,
     last: bool,

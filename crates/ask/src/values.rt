@@ -51,7 +51,7 @@ fn decimal(text: &[u8], from: usize, to: usize) -> u32 {
 }
 
 // Places in the three texts, and how many variables were met.
-#[derive(Drop)]
+#[derive(Clone, Copy)]
 struct Walk {
     asked: usize,
     answer: usize,

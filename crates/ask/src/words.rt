@@ -3,7 +3,7 @@ use crate::answers::Wanted;
 use crate::out::say;
 use crate::text::{byte, digit, is_digit, part};
 
-#[derive(Drop)]
+#[derive(Clone, Copy)]
 pub(crate) enum Mood {
     Ready,
     Number,
@@ -14,7 +14,7 @@ pub(crate) enum Mood {
 
 // Which words are the rules' file and the query, 0 where there is none; what else they ask for; and what the next one has to be, or what is wrong with those
 // before it.
-#[derive(Drop)]
+#[derive(Clone, Copy)]
 pub(crate) struct Words {
     pub(crate) rules: usize,
     pub(crate) query: usize,

@@ -1,1 +1,2 @@
 // What the reader of a query's text answers, as a definition, and what the answer means; no code.
+#![tactic(auto)]

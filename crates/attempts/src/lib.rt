@@ -1,4 +1,6 @@
 // A clause put behind what is held, and tried on the goal's first formula.
+#![tactic(auto)]
+
 ghost use Rattle.std.specs.Prelude.{◌≡◌, List, ◌∷◌, ℕ, ◌+◌, ◌≤◌, length, take};
 ghost use Rattle.terms.specs.Node.{Expr};
 ghost use Rattle.search.specs.Next.{Clause, Book, Goal};
@@ -25,7 +27,7 @@ pub mod facts; // facts that need no trial
 
 // The two are equal now, with so many goal variables on the trail, each of which stands for so much at most, where that is known; or they can't be made equal; or nothing is known. Only where
 // they are equal is more bound than before.
-#[derive(Drop)]
+#[derive(Clone, Copy)]
 pub enum Attempt {
     Fits(usize, Weight),
     Clash,
@@ -112,7 +114,7 @@ fn try_clause(
 }
 
 // The first clause that fits, by its number, how many goal variables its trial has bound and what each of them stands for at most; or that it is a fact which stands there; or nothing is known.
-#[derive(Drop)]
+#[derive(Clone, Copy)]
 pub enum Found {
     Clause(usize, usize, Weight),
     Given(usize),

@@ -9,7 +9,7 @@ use words::{get, word};
 
 // So many places of the body have variables that the head has not; OVER where a variable of the head is more often in the body. Whether each variable of the head is as often in the body's
 // first formula. And a number that all variables are below.
-#[derive(Drop)]
+#[derive(Clone, Copy)]
 pub struct Thrift {
     pub fresh: usize,
     pub whole: bool,
@@ -17,7 +17,7 @@ pub struct Thrift {
 }
 
 // Places of the head's variables, and a number that all variables are below.
-#[derive(Drop)]
+#[derive(Clone, Copy)]
 pub struct Noted {
     pub places: usize,
     pub names: usize,
@@ -59,7 +59,7 @@ fn note(head: &[u32], counts: &mut [u16]) -> Noted
 }
 
 // Of some words: so many places took one of the counts, so many have variables with no count; OVER where a count was used up.
-#[derive(Drop)]
+#[derive(Clone, Copy)]
 pub struct Taken {
     pub matched: usize,
     pub fresh: usize,

@@ -1,4 +1,6 @@
 // How large what rows of the heap stand for is, and how much larger a step may make it.
+#![tactic(auto)]
+
 ghost use Rattle.std.specs.Prelude.{◌≡◌, [], ◌∷◌, ℕ, ◌<◌, ◌≤◌, length};
 ghost use Rattle.words.specs.Word.{Valid, node};
 ghost use Rattle.heap.specs.Heap.{Made, Whole};
@@ -12,7 +14,7 @@ use words::{arity, get};
 pub mod clauses; // what a clause's body adds to its head
 
 // How many nodes, and how many of them are variables.
-#[derive(Drop)]
+#[derive(Clone, Copy)]
 pub struct Size {
     pub nodes: usize,
     pub variables: usize,
@@ -20,7 +22,7 @@ pub struct Size {
 
 // What a trial has bound: each of its variables stands for so many nodes at most, and so many of them are variables, one of each at least. And where no variable was there twice, none is
 // there more than `times` times now.
-#[derive(Drop)]
+#[derive(Clone, Copy)]
 pub struct Weight {
     pub nodes: usize,
     pub variables: usize,

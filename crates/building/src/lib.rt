@@ -1,4 +1,6 @@
 // What each token adds to the bytes of the rule that is being read (document 02, C-13).
+#![tactic(auto)]
+
 ghost use Rattle.std.specs.Prelude.{◌≡◌, List, ℕ, ◌+◌, ◌-◌, ◌<◌, ◌≤◌, length, get_or, set};
 ghost use Rattle.building.specs.Built.{kind_at, bumped, Ready, Opened, Alone, Nested, Argued, Closed, headed};
 
@@ -7,7 +9,7 @@ use drafts::{Draft, Kind, Named, symbol, variable};
 use words::get;
 
 // The name that a token settles, and how many brackets are open.
-#[derive(Drop)]
+#[derive(Clone, Copy)]
 pub struct Work {
     pub draft: Draft,
     pub depth: usize,

@@ -1,4 +1,6 @@
 // Where a query uses a predicate with another arity than its book, or than it did itself (document 02, C-18): how many formulas come before the first that does.
+#![tactic(auto)]
+
 ghost use Rattle.std.specs.Prelude.{◌≡◌, ◌+◌, ◌<◌, ◌≤◌, length};
 ghost use Rattle.format.specs.Reading.{book_verdict};
 ghost use Rattle.format.specs.Decode.{book_of};

@@ -1,4 +1,6 @@
 // Ranks for the classes, each above those of its arguments, in the place of the occurs check: a class on a cycle can have none.
+#![tactic(auto)]
+
 ghost use Rattle.std.specs.Prelude.{◌≡◌, [], ◌∷◌, ◌<◌, ◌≤◌, length, get_or};
 ghost use Rattle.words.specs.Word.{Valids};
 ghost use Rattle.words.specs.Columns.{ROWS, CELLS, Only, LEFT, RIGHT, RANK};

@@ -1,4 +1,6 @@
 // The nodes of the rule that is being read, as bytes, with the numbers of their names (document 02, C-13).
+#![tactic(auto)]
+
 ghost use Rattle.std.specs.Prelude.{◌≡◌, List, ◌++◌, ℕ, ◌+◌, ◌<◌, ◌≤◌, length, take};
 ghost use Rattle.grammar.specs.Names.{Spot, Sort};
 ghost use Rattle.nametable.specs.Table.{word};
@@ -10,7 +12,7 @@ use symbols::{Section, next, number_in};
 
 pub mod writing; // records as bytes
 
-#[derive(Drop)]
+#[derive(Clone, Copy)]
 pub enum Kind {
     Constant,
     Compound,
@@ -18,7 +20,7 @@ pub enum Kind {
 }
 
 // Where the nodes of the rule stand, how many bytes they have, and how many names of each sort there are.
-#[derive(Drop)]
+#[derive(Clone, Copy)]
 pub struct Draft {
     pub from: usize,
     pub len: usize,
@@ -28,7 +30,7 @@ pub struct Draft {
 }
 
 // A name in the text, and what it is a name of.
-#[derive(Drop)]
+#[derive(Clone, Copy)]
 pub struct Named {
     pub kind: Kind,
     pub at: usize,

@@ -1,4 +1,6 @@
 // How an answer is put together: a refusal, and what a search has closed with.
+#![tactic(auto)]
+
 ghost use Rattle.std.specs.Prelude.{◌≡◌, ◌≤◌, min};
 ghost use Rattle.outcomes.specs.Outcome.{refused};
 ghost use Rattle.endings.specs.Ending.{answered};

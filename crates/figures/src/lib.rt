@@ -1,4 +1,6 @@
 // What a clause's body adds to its head depends on the clause alone: it is found once, and kept in two words to a clause.
+#![tactic(auto)]
+
 ghost use Rattle.std.specs.Prelude.{◌≡◌, ◌+◌, ◌*◌, ◌<◌, ◌≤◌, length, get_or};
 ghost use Rattle.search.specs.Next.{Clause};
 ghost use Rattle.words.specs.Held.{ClauseIn};
@@ -9,7 +11,7 @@ use heap::past;
 use words::get;
 
 // A clause's thrift (bounds), and how many words the first formula of its body has; 0 where there is none.
-#[derive(Drop)]
+#[derive(Clone, Copy)]
 pub struct Figure {
     pub fresh: usize,
     pub whole: bool,

@@ -1,1 +1,2 @@
 // Flat books and queries, of constants and variables only, as definitions and theorems; no code.
+#![tactic(auto)]

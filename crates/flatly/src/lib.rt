@@ -1,4 +1,6 @@
 // What the checks of the flat profile find, each as the one number that C gets (document 02, C-20).
+#![tactic(auto)]
+
 ghost use Rattle.std.specs.Prelude.{◌≡◌};
 ghost use Rattle.flatly.specs.Outcome.{flat_book_number, flat_query_number, BookNarrow, QueryNarrow};
 

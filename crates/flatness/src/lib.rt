@@ -1,4 +1,6 @@
 // The flat profile (document 02, C-20): books and queries of "constants and variables only", checked and counted.
+#![tactic(auto)]
+
 ghost use Rattle.std.specs.Prelude.{◌≡◌, ◌≤◌, length};
 ghost use Rattle.flatness.specs.Profile.{compound_from, allowed_up_to, flat_check_of, book_flat, query_flat, flat_book_of};
 
@@ -10,7 +12,7 @@ use records::{check_book, check_query};
 mod counting;
 
 // What the flat check of a book answers: code, place, clauses, and how many distinct predicates and constants the book has.
-#[derive(Drop)]
+#[derive(Clone, Copy)]
 pub struct FlatBook {
     pub code: u8,
     pub place: usize,

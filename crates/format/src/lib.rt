@@ -1,8 +1,9 @@
 // What the bytes of a book or a query are read as, and what a check answers (document 01, "Records", "Sizes" and "Codes"). No code: the definitions are in specs, what
 // they mean in proofs.
+#![tactic(auto)]
 
 // "A record is one byte of kind, then a body whose length the kind fixes." The kinds in order, 01 to 07.
-#[derive(Drop)]
+#[derive(Clone, Copy)]
 pub enum Record {
     Variable(u16),
     Constant(u16),
@@ -14,7 +15,7 @@ pub enum Record {
 }
 
 // What is checked.
-#[derive(Drop)]
+#[derive(Clone, Copy)]
 pub enum Form {
     Book,
     Query,
@@ -22,7 +23,7 @@ pub enum Form {
 
 // What has been read: the terms still owed to the formula and the formulas still owed to the clause or goal, its
 // nodes and its next unused variable so far, the clauses so far, and whether no further clause or goal may start.
-#[derive(Drop)]
+#[derive(Clone, Copy)]
 pub struct State {
     pub terms: usize,
     pub formulas: usize,
@@ -33,7 +34,7 @@ pub struct State {
 }
 
 // What is wrong with a record, in the order of the tests.
-#[derive(Drop)]
+#[derive(Clone, Copy)]
 pub enum Fault {
     Kind,
     Cut,
@@ -44,14 +45,14 @@ pub enum Fault {
 }
 
 // A record is taken, or refused.
-#[derive(Drop)]
+#[derive(Clone, Copy)]
 pub enum Judged {
     Next(State),
     Bad(Fault),
 }
 
 // "A check gives code, place and one count: the clauses of a good book, the nodes of a good query, else 0."
-#[derive(Drop)]
+#[derive(Clone, Copy)]
 pub struct Check {
     pub code: u8,
     pub place: usize,

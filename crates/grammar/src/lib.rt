@@ -1,1 +1,2 @@
 // The notation in which rule books are written, as definitions and theorems; no code.
+#![tactic(auto)]

@@ -1,11 +1,12 @@
 // How far a query's text is read, in numbers (document 02, C-13).
+#![tactic(auto)]
 
 pub mod advancing; // what a piece changes
 pub mod modes; // what may stand next
 pub mod sizes; // what would be one too many
 
 // Before the first formula; before a formula or an argument that must come; behind a name, whose bracket may follow; behind a formula or an argument; behind the full stop; nowhere.
-#[derive(Drop)]
+#[derive(Clone, Copy)]
 pub enum Mode {
     Begin,
     Expects,
@@ -16,7 +17,7 @@ pub enum Mode {
 }
 
 // What may stand next; the commas outside all brackets; how many brackets are open; names and variables.
-#[derive(Drop)]
+#[derive(Clone, Copy)]
 pub struct Stage {
     pub mode: Mode,
     pub outside: usize,
@@ -25,14 +26,14 @@ pub struct Stage {
 }
 
 // What a piece leads to, or a code and a place.
-#[derive(Drop)]
+#[derive(Clone, Copy)]
 pub enum Judged {
     Going(Stage),
     Bad(usize, usize),
 }
 
 // A query's text, or a code and a place.
-#[derive(Drop)]
+#[derive(Clone, Copy)]
 pub enum Ended {
     Fine,
     Refused(usize, usize),

@@ -92,3 +92,4 @@ module _ (heap cells : List ℕ) (v p : ℕ) (free : bound cells v ≡ 0) (insid
         longer (var w ∷ []) r (inr j) n same = absurd j
         longer (var w ∷ x ∷ e) (row_var r) i n same = absurd (omega (arith, row-none r))
         longer (sym c ∷ e) (row_sym r) i n same = omega (arith, in-length τ v e i, ap length same)
+        longer [] r i n same = elim r [ ]

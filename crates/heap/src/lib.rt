@@ -1,5 +1,7 @@
 // The heap: rows of words that only grow, and a table of what variables are bound to. A row is a term or a formula in prefix form, a word to a
 // node. The table has for each variable the position after that of its row, or 0.
+#![tactic(auto)]
+
 ghost use Rattle.std.specs.Prelude.{◌≡◌, ◌+◌, ◌%◌, ◌<◌, length};
 ghost use Rattle.words.specs.Word.{Valids};
 ghost use Rattle.heap.specs.Heap.{rows, Whole, Made};

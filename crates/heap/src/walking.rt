@@ -8,7 +8,7 @@ use words::{arity, get, word};
 
 // `due` rows from the position `at` on are to be visited, and then those of the levels, the last first. A level is two numbers: its position,
 // and how many rows are due there.
-#[derive(Drop)]
+#[derive(Clone, Copy)]
 pub struct Walk {
     pub at: usize,
     pub due: usize,
@@ -20,7 +20,7 @@ pub struct Walk {
 pub const DEEPEST: usize = 256;
 
 // A node, and the walk after it.
-#[derive(Drop)]
+#[derive(Clone, Copy)]
 pub struct Seen {
     pub word: u32,
     pub walk: Walk,

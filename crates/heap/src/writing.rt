@@ -13,7 +13,7 @@ use numbering::name;
 use words::{arity, word};
 
 // How many words are written, and how many variables have a number.
-#[derive(Drop)]
+#[derive(Clone, Copy)]
 pub struct Pen {
     pub at: usize,
     pub count: usize,
@@ -26,7 +26,7 @@ pub const OVER: usize = 65535;
 pub const TIRED: usize = 65534;
 
 // How far a walk has come over symbols alone: its position and the rows that are due there, and how many words are written.
-#[derive(Drop)]
+#[derive(Clone, Copy)]
 pub struct Run {
     pub at: usize,
     pub due: usize,

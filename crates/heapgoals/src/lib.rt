@@ -1,4 +1,6 @@
 // A goal that stays on the heap from step to step, with its answer: what stands where, and how large it is at most.
+#![tactic(auto)]
+
 ghost use Rattle.std.specs.Prelude.{◌≡◌, List, ◌∷◌, ℕ, ◌≤◌, length};
 ghost use Rattle.terms.specs.Node.{Expr};
 ghost use Rattle.search.specs.Next.{Goal};
@@ -16,7 +18,7 @@ pub mod writing; // what is held, written out
 // `due` rows of the goal from the position `at` on, and behind them those of `depth` levels, the last first, as a walk has them; how many formulas these are, and the
 // answer's rows. How many words of the heap are in use, and from which number on variables are new. Goal and answer have at most `nodes` and `found` nodes, `variables` of these are
 // variables, and no variable is there more than `most` times; the first formula has `least` nodes at least.
-#[derive(Drop)]
+#[derive(Clone, Copy)]
 pub struct Standing {
     pub at: usize,
     pub due: usize,
@@ -48,7 +50,7 @@ fn variables_in(words: &[u32]) -> usize
 }
 
 // Of a row, a goal with its answer behind it: how many words are the goal's and how many its first formula's, how many formulas goal and answer have.
-#[derive(Drop)]
+#[derive(Clone, Copy)]
 pub struct Sides {
     pub words: usize,
     pub first: usize,

@@ -141,7 +141,7 @@ fn write_goal(
 }
 
 // How many words of the goal are written, and of the answer behind it; over 4,096 where the writing gave up.
-#[derive(Drop)]
+#[derive(Clone, Copy)]
 pub struct Row {
     pub words: usize,
     pub answer: usize,

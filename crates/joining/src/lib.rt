@@ -1,4 +1,6 @@
 // Classes joined, and all that follows: a pair once joined is never visited again (document 02, C-15), for each join makes one root fewer.
+#![tactic(auto)]
+
 ghost use Rattle.std.specs.Prelude.{◌≡◌, [], ◌∷◌, ◌<◌, ◌≤◌, length, get_or};
 ghost use Rattle.words.specs.Word.{arity_of};
 ghost use Rattle.words.specs.Columns.{ROWS, CELLS, column, Only, UP, PICK, LEFT, RIGHT};

@@ -1,5 +1,7 @@
 // Names that are known already (document 02, C-13: "against a given name list"): whether bytes are a list that leaves no number out, how many names of each sort it gives, and the number
 // of a name in it.
+#![tactic(auto)]
+
 ghost use Rattle.std.specs.Prelude.{◌≡◌, ◌&&◌, List, ℕ, ◌+◌, ◌<◌, ◌≤◌, length, get_or, eqb};
 ghost use Rattle.format.specs.Reading.{number_at};
 ghost use Rattle.grammar.specs.Names as Names;
@@ -16,7 +18,7 @@ use nametable::byte;
 use records::record::number_at;
 
 // Whether the list is one, and if so how many names of each sort it has.
-#[derive(Drop)]
+#[derive(Clone, Copy)]
 pub struct Known {
     pub good: bool,
     pub constants: usize,

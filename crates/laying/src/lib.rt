@@ -1,4 +1,6 @@
 // The nodes of a query as bytes, laid down piece by piece of its text (document 02, C-13); its names have the numbers of the list that is given, and new ones stand behind them.
+#![tactic(auto)]
+
 ghost use Rattle.std.specs.Prelude.{◌≡◌, ◌+◌, ◌-◌, ◌<◌, ◌≤◌, length};
 ghost use Rattle.laying.specs.Held.{kind_of, blank_draft, rooted_draft, shut_draft, opens_at};
 ghost use Rattle.laying.specs.Adding.{role_of, SomeWord, NameLaid, SomeVariable, VariableLaid, SomePiece, PieceLaid, Lays, Laid};
@@ -11,7 +13,7 @@ use pieces::{Found, end_of, piece_at};
 mod nodes; // records, and the arities of symbols whose brackets are open
 mod owned; // the query's own words
 
-#[derive(Drop)]
+#[derive(Clone, Copy)]
 pub enum Kind {
     Variable,
     Constant,
@@ -20,7 +22,7 @@ pub enum Kind {
 }
 
 // How many bytes are laid, how many brackets are open, how many formulas there are; and how many words of each kind that no list has given.
-#[derive(Drop)]
+#[derive(Clone, Copy)]
 pub struct Draft {
     pub len: usize,
     pub depth: usize,
@@ -32,7 +34,7 @@ pub struct Draft {
 }
 
 // A word of the text.
-#[derive(Drop)]
+#[derive(Clone, Copy)]
 pub struct Word {
     pub kind: Kind,
     pub at: usize,
@@ -40,7 +42,7 @@ pub struct Word {
 }
 
 // What is there before a piece of the text.
-#[derive(Drop)]
+#[derive(Clone, Copy)]
 pub struct Task {
     pub draft: Draft,
     pub known: Known,

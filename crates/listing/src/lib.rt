@@ -1,4 +1,6 @@
 // Names as a list of bytes (document 02, C-13: "record kind, number, length in one byte, name; entries rise by kind, then number").
+#![tactic(auto)]
+
 ghost use Rattle.std.specs.Prelude.{◌≡◌, ◌∷◌, ◌+◌, ◌*◌, ◌/◌, ◌%◌, ◌<◌, ◌≤◌, length};
 ghost use Rattle.nametable.specs.Table.{word};
 ghost use Rattle.symbols.specs.Sections.{part};

@@ -15,7 +15,7 @@ use heap::{SYMBOL, follow, id};
 use words::word;
 
 // A variable of the goal is on a row of the head now, which stands for so much; or it is not, since it is in what that stands for, or that is not known.
-#[derive(Drop)]
+#[derive(Clone, Copy)]
 pub enum Hanging {
     On(Weight),
     Off,
@@ -78,7 +78,7 @@ fn hang_last(
 }
 
 // The rows are equal, after so many bindings of goal variables, each of which stands for so much at most, where that is known; they can't be made equal; or nothing is known.
-#[derive(Drop)]
+#[derive(Clone, Copy)]
 pub enum Fitted {
     Fits(usize, Weight),
     Clash(usize),

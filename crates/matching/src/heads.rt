@@ -14,7 +14,7 @@ use heap::{SYMBOL, follow, id, past};
 use words::{arity, get, word};
 
 // A pair of the formula's row and the head's: these pairs are due in its place, and behind it; it can't be made equal; or it takes more than the head's variables.
-#[derive(Drop)]
+#[derive(Clone, Copy)]
 pub enum Way {
     On(Pairs),
     Unlike,
@@ -114,7 +114,7 @@ fn match_first(heap: &[u32], cells: &mut [u16], stack: &mut [u16], t: Trial, x: 
 }
 
 // The two can't be made equal; or these pairs are left.
-#[derive(Drop)]
+#[derive(Clone, Copy)]
 pub enum Matched {
     Unlike,
     Left(Pairs),

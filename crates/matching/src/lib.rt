@@ -1,4 +1,5 @@
 // Two rows of the heap made equal by binding variables.
+#![tactic(auto)]
 
 pub mod meeting; // what two rows come to
 pub mod pairs; // pairs that are still due

@@ -8,7 +8,7 @@ use words::{arity, word};
 
 // Nothing; so many arguments from two positions on; a variable, which is not bound, on the row at a position: another variable, of a lower
 // number, or a symbol's. Or it can't be done.
-#[derive(Drop)]
+#[derive(Clone, Copy)]
 pub enum Meeting {
     Same,
     Inside(usize, usize, usize),

@@ -12,7 +12,7 @@ use heap::walking::{DEEPEST, Walk, lone, next};
 use words::arity;
 
 // It is not, and so many nodes may still be visited; it is; or there were too many nodes or levels to say.
-#[derive(Drop)]
+#[derive(Clone, Copy)]
 pub enum Look {
     Away(usize),
     There,
@@ -20,7 +20,7 @@ pub enum Look {
 }
 
 // What is left of a row: `due` rows from the position `at` on, and so many nodes that may still be visited.
-#[derive(Drop)]
+#[derive(Clone, Copy)]
 struct Rest {
     at: usize,
     due: usize,

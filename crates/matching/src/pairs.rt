@@ -9,7 +9,7 @@ use words::{arity, get, word};
 
 // `due` rows from p on and as many from q on, pair by pair, and then those of the levels, the last first. A level is three numbers: two positions,
 // and how many rows are due there.
-#[derive(Drop)]
+#[derive(Clone, Copy)]
 pub struct Pairs {
     pub p: usize,
     pub q: usize,

@@ -12,7 +12,7 @@ use crate::pairs::{Pairs, behind, entered, past_alike, settled};
 
 // How a trial stands: the number that the clause's variables start from, where the clause starts on the heap, how many goal variables are bound by it, and
 // how many nodes it may still visit.
-#[derive(Drop)]
+#[derive(Clone, Copy)]
 pub struct Trial {
     pub base: usize,
     pub start: usize,
@@ -21,7 +21,7 @@ pub struct Trial {
 }
 
 // One pair: it is equal now, after so many bindings and with so many nodes left; its arguments are due; it can't be made equal; nothing is known.
-#[derive(Drop)]
+#[derive(Clone, Copy)]
 pub enum Step {
     Done(usize, usize),
     Inside(usize, usize, usize),
@@ -98,7 +98,7 @@ fn make(
 
 // The rows are equal, after so many bindings of goal variables and with so many nodes left; they can't be made equal; or the trial gave up and
 // nothing is known. However it ends, the trail has so many goal variables.
-#[derive(Drop)]
+#[derive(Clone, Copy)]
 pub enum Tried {
     Fits(usize, usize),
     Clash(usize),

@@ -1,4 +1,6 @@
 // Name lists (document 02, C-13 and C-14): whether bytes are one, and where the name of a symbol stands in it.
+#![tactic(auto)]
+
 ghost use Rattle.std.specs.Prelude.{◌≡◌, List, ◌∷◌, ℕ, suc, ◌+◌, ◌<◌, ◌≤◌, ◌&&◌, eqb, length, get_or};
 ghost use Rattle.format.specs.Reading.{number_at};
 ghost use Rattle.grammar.specs.Names as Names;
@@ -170,7 +172,7 @@ pub fn is_list(s: &[u8]) -> bool
 }
 
 // Where a name stands, and its length.
-#[derive(Drop)]
+#[derive(Clone, Copy)]
 pub struct Place {
     pub start: usize,
     pub len: usize,

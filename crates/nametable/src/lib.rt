@@ -1,4 +1,6 @@
 // A table of names by first appearance (document 02, C-13), found by a hash, so that a text is read in a time that grows as the text does.
+#![tactic(auto)]
+
 ghost use Rattle.std.specs.Prelude.{◌≡◌, List, ℕ, ◌+◌, ◌<◌, ◌≤◌, length, get_or};
 ghost use Rattle.grammar.specs.Names.{same_name, place};
 ghost use Rattle.nametable.specs.Table.{word, hash, Table, Room, Put, Numbered};

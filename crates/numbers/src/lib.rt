@@ -1,5 +1,7 @@
 // One number in the place of an answer: "For C the answer is one 64-bit number: outcome in the lowest eight bits; the next 24 bits hold the place for codes
 // 1 to 19 and the bytes written otherwise; the top 32 hold the steps."
+#![tactic(auto)]
+
 ghost use Rattle.std.specs.Prelude.{◌≡◌, ◌+◌, ◌*◌, ◌^◌, ◌<◌};
 ghost use Rattle.outcomes.specs.Firmware.{Narrow, number};
 ghost use Rattle.outcomes.specs.CallNumbers.{ApplyNarrow, apply_number};

@@ -1,4 +1,6 @@
 // Reading and printing for C: "called from there with numbers and byte areas only".
+#![tactic(auto)]
+
 ghost use Rattle.std.specs.Prelude.{◌≡◌};
 ghost use Rattle.printouts.specs.Outcome.{print_answer, print_area, goal_answer, goal_area};
 ghost use Rattle.printouts.specs.Answer.{found_answer, found_area};

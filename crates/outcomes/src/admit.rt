@@ -5,7 +5,7 @@ ghost use Rattle.outcomes.specs.Outcome.{refusal};
 use records::check_query;
 
 // "Codes 1 to 19 refuse the input", with a place; code 0 refuses nothing.
-#[derive(Drop)]
+#[derive(Clone, Copy)]
 pub struct Admitted {
     pub code: u8,
     pub place: u32,

@@ -1,5 +1,7 @@
 // The pick (document 02, C-16): the clause that the single step would take. "It doesn't look at the next goal's size and never writes; its
 // steps are 0."
+#![tactic(auto)]
+
 ghost use Rattle.std.specs.Prelude.{◌≡◌, ◌∷◌, ℕ, ◌+◌, ◌*◌, ◌≤◌, length};
 ghost use Rattle.terms.specs.Node.{Expr};
 ghost use Rattle.search.specs.Next.{Book, Goal};

@@ -1,4 +1,6 @@
 // The piece at a place of a text: a token, a blank or a comment, and where it ends (document 02, C-13).
+#![tactic(auto)]
+
 ghost use Rattle.std.specs.Prelude.{◌≡◌, ◌<◌, ◌≤◌, length, drop};
 ghost use Rattle.grammar.specs.Byte.{small, capital, digit, goes_on, starts_variable, is_blank};
 ghost use Rattle.grammar.specs.Token.{after_stop};
@@ -6,7 +8,7 @@ ghost use Rattle.grammar.specs.Front.{class, in_comment};
 ghost use Rattle.pieces.specs.Found.{class_of, end_of, Ends, stop_found, arrow_found, Shows};
 
 // What a byte begins.
-#[derive(Drop)]
+#[derive(Clone, Copy)]
 pub enum Class {
     Bracket,
     Small,
@@ -21,7 +23,7 @@ pub enum Class {
 }
 
 // A piece, with its end where it is longer than its sign; a token that breaks off behind its first byte; or nothing.
-#[derive(Drop)]
+#[derive(Clone, Copy)]
 pub enum Found {
     Name(usize),
     Variable(usize),

@@ -1,4 +1,6 @@
 // Prints a book, or a goal, with its name list as text (document 02, C-14).
+#![tactic(auto)]
+
 ghost use Rattle.std.specs.Prelude.{◌≡◌, List, [], length};
 ghost use Rattle.format.specs.Format.{encode};
 ghost use Rattle.namelist.specs.List.{Entry, naming};

@@ -1,5 +1,7 @@
 // The entries of the flat profile (document 02, C-20): the single step and the run behind the flat checks; for C firmware too. Each takes any arguments
 // and refuses what is not good.
+#![tactic(auto)]
+
 ghost use Rattle.std.specs.Prelude.{◌≡◌, ◌≤◌};
 ghost use Rattle.flatly.specs.Outcome.{flat_step_answer, flat_step_area, flat_run_answer, flat_run_area, flat_run_answer_area};
 

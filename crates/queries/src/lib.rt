@@ -1,4 +1,6 @@
 // A query typed on a laptop, read against a book and its name list (document 02, C-13).
+#![tactic(auto)]
+
 ghost use Rattle.std.specs.Prelude.{◌≡◌, true, List, ◌∷◌, ◌++◌, ℕ, ◌+◌, ◌/◌, ◌%◌, ◌<◌, ◌≤◌, length, take};
 ghost use Rattle.storage.specs.Storage.{Written};
 ghost use Rattle.questions.specs.Outcome.{refusal, outcome, query_area, list_area};
@@ -16,7 +18,7 @@ use relisting::{list_size, put_list};
 use turns::check_text;
 
 // The names that were known, and what is laid down.
-#[derive(Drop)]
+#[derive(Clone, Copy)]
 pub struct Reading {
     pub known: Known,
     pub draft: Draft,

@@ -1,4 +1,6 @@
 // A text is read: what each of its pieces adds to the book (document 02, C-13).
+#![tactic(auto)]
+
 ghost use Rattle.std.specs.Prelude.{◌≡◌, ◌<◌, ◌≤◌};
 ghost use Rattle.stages.specs.Stage.{grown};
 ghost use Rattle.reader.specs.Kept.{Steps, Stepped, Turns, BuiltOn, ended, waits};
@@ -60,7 +62,7 @@ fn add(
 }
 
 // A piece of the text: the draft and the stage before it, and the number of the variable if it is one.
-#[derive(Drop)]
+#[derive(Clone, Copy)]
 pub struct Turn {
     pub draft: Draft,
     pub stage: Stage,

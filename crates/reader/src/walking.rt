@@ -13,7 +13,7 @@ use stages::variables::number;
 use stages::{Judged, Mode, Stage, turn};
 
 // A refusal, with its place; or all rules are read.
-#[derive(Drop)]
+#[derive(Clone, Copy)]
 pub enum Ended {
     Refused(usize, usize),
     Read(Draft),

@@ -1,7 +1,8 @@
 // What reading a text answers (document 02, C-13), with no code: the definitions and what is proved of them are in specs.
+#![tactic(auto)]
 
 // "code, place"; and the bytes of the book and of the names.
-#[derive(Drop)]
+#[derive(Clone, Copy)]
 pub struct ReadText {
     pub code: u8,
     pub place: u32,
@@ -10,7 +11,7 @@ pub struct ReadText {
 }
 
 // Each predicate number keeps one arity; or how many formulas stand before the first that uses one with another (document 02, C-18).
-#[derive(Drop)]
+#[derive(Clone, Copy)]
 pub enum Arities {
     One,
     Two(usize),

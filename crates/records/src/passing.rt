@@ -12,7 +12,7 @@ use crate::state::{next_unused, node_limit, variable_limit};
 use format::{Form, State};
 
 // A place, and what of the state there a node changes.
-#[derive(Drop)]
+#[derive(Clone, Copy)]
 pub struct Open {
     pub at: usize,
     pub terms: usize,

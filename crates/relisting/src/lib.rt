@@ -1,4 +1,6 @@
 // "the name list with the new names in it" (document 02, C-13): each sort's names as they are given, and the query's own behind them.
+#![tactic(auto)]
+
 ghost use Rattle.std.specs.Prelude.{◌≡◌, List, ◌++◌, ℕ, ◌+◌, ◌-◌, ◌*◌, ◌<◌, ◌≤◌, length};
 ghost use Rattle.nametable.specs.Table.{word};
 ghost use Rattle.namelist.specs.List.{Entry};
@@ -16,7 +18,7 @@ use nametable::byte;
 use words::get;
 
 // A sort: where its names stand in the list, where the query's own stand in the table and how many they are, its kind, and how many names are given.
-#[derive(Drop)]
+#[derive(Clone, Copy)]
 pub struct Part {
     pub from: usize,
     pub to: usize,

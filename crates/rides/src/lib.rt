@@ -1,5 +1,7 @@
 // Several steps of a run on the heap: from a row that is written to a row that is written. Each state in between is open, and its next goal and answer have room; where that is not sure, the ride
 // ends, and goal and answer are written out.
+#![tactic(auto)]
+
 ghost use Rattle.std.specs.Prelude.{ℕ, ◌+◌, ◌≤◌, ◌≡◌, List, length, take};
 ghost use Rattle.search.specs.Next.{Book, Goal};
 ghost use Rattle.words.specs.Columns.{CELLS};
@@ -20,7 +22,7 @@ use treads::{Tread, take_step};
 pub mod looking; // what is looked at before a step
 
 // The state that a ride starts from, how many formulas its answer has, and the budget.
-#[derive(Drop)]
+#[derive(Clone, Copy)]
 pub struct Start {
     pub place: Place,
     pub answers: usize,
@@ -28,7 +30,7 @@ pub struct Start {
 }
 
 // The state that is come to; the first words of `out` are its goal, and those behind them its answer.
-#[derive(Drop)]
+#[derive(Clone, Copy)]
 pub struct Come {
     pub detector: Detector,
     pub words: usize,
@@ -37,7 +39,7 @@ pub struct Come {
     pub kept: usize,
 }
 
-#[derive(Drop)]
+#[derive(Clone, Copy)]
 pub enum Ridden {
     Stayed,
     Came(Come),

@@ -11,7 +11,7 @@ use heapgoals::Standing;
 use heapgoals::writing::{is_other, write_first};
 
 // The detector, how many words are saved, and the budget.
-#[derive(Drop)]
+#[derive(Clone, Copy)]
 pub struct Along {
     pub detector: Detector,
     pub kept: usize,
@@ -19,7 +19,7 @@ pub struct Along {
 }
 
 // Whether a save is due before the step, and how many words the formula has then; over 4,096 where the ride ends.
-#[derive(Drop)]
+#[derive(Clone, Copy)]
 pub struct Ahead {
     pub kept: usize,
     pub due: bool,

@@ -1,5 +1,7 @@
 // Whether a book keeps one arity for each predicate number (document 02, C-18). The table has a byte for each number, 0 of one that was not met, and one more than its arity of one
 // that was.
+#![tactic(auto)]
+
 ghost use Rattle.std.specs.Prelude.{◌≡◌, true, ◌||◌, ◌+◌, ◌<◌, ◌≤◌, length, eqb};
 ghost use Rattle.terms.specs.When.{◌⇒◌∣◌};
 ghost use Rattle.format.specs.declared.Record.TheVariants.{Formula};

@@ -8,7 +8,7 @@ use states::leftmost::{copy_words, keep};
 use states::{Place, Turn, look};
 
 // The next row: how many words are its goal's and its answer's, and how many formulas its goal has.
-#[derive(Drop)]
+#[derive(Clone, Copy)]
 pub struct Onto {
     pub words: usize,
     pub answer: usize,

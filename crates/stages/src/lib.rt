@@ -1,4 +1,6 @@
 // How far a rule of a text is read, in numbers: what each piece makes of it, or the refusal that it is (document 02, C-13).
+#![tactic(auto)]
+
 ghost use Rattle.std.specs.Prelude.{◌≡◌, List, ℕ, ◌≤◌, length};
 ghost use Rattle.reading.specs.Part.{State};
 ghost use Rattle.pieces.specs.Found.{Shows};
@@ -14,7 +16,7 @@ pub mod signs; // brackets, commas, `:-` and full stops
 pub mod naming; // names and variables
 
 // Between two rules; before a formula or an argument that must come; behind a name, whose bracket may follow; behind a formula or an argument.
-#[derive(Drop)]
+#[derive(Clone, Copy)]
 pub enum Mode {
     Between,
     Expects,
@@ -23,7 +25,7 @@ pub enum Mode {
 }
 
 // What may stand next, and the name whose bracket may follow; how many brackets are open; how many formulas, nodes, variables and rules there are.
-#[derive(Drop)]
+#[derive(Clone, Copy)]
 pub struct Stage {
     pub mode: Mode,
     pub at: usize,
@@ -36,7 +38,7 @@ pub struct Stage {
 }
 
 // What a piece leads to, or a code and a place.
-#[derive(Drop)]
+#[derive(Clone, Copy)]
 pub enum Judged {
     Going(Stage),
     Bad(usize, usize),

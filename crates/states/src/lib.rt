@@ -1,4 +1,6 @@
 // The states of the search: open, or closed with what is answered; the first two tests of document 01, "Detection states".
+#![tactic(auto)]
+
 ghost use Rattle.states.specs.States.{Somewhere, Looked};
 
 use crate::closing::close;
@@ -11,7 +13,7 @@ pub mod closing; // how a state closes the run
 
 // The open state of the search: its detector, how many words and formulas its goal has, how many words the answer behind it has, how many the
 // saved formula (none: 0), and how many the leftmost formula.
-#[derive(Drop)]
+#[derive(Clone, Copy)]
 pub struct Place {
     pub detector: Detector,
     pub words: usize,
@@ -23,7 +25,7 @@ pub struct Place {
 
 // How the search closes: the goal is the first `words` words, and the answer the `answer` words behind them (document 02, C-11). "With every
 // code but 22" the clause that got furthest and its argument are 0 (C-19).
-#[derive(Drop)]
+#[derive(Clone, Copy)]
 pub struct Ended {
     pub code: u8,
     pub steps: u32,
@@ -35,7 +37,7 @@ pub struct Ended {
     pub argument: usize,
 }
 
-#[derive(Drop)]
+#[derive(Clone, Copy)]
 pub enum Turn {
     Open(Place),
     Shut(Ended),

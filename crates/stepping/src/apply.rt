@@ -66,7 +66,7 @@ fn one_step(clause: usize, bytes: usize) -> Stepped
 }
 
 // A goal's formulas, and the number of the clause to apply.
-#[derive(Drop)]
+#[derive(Clone, Copy)]
 pub struct Call {
     pub formulas: usize,
     pub clause: usize,

@@ -1,4 +1,6 @@
 // Names of several sorts, each sort in a section of its own of the same storage (document 02, C-13: "separately for the three sorts of symbol").
+#![tactic(auto)]
+
 ghost use Rattle.std.specs.Prelude.{◌≡◌, List, ℕ, ◌+◌, ◌<◌, ◌≤◌, length};
 ghost use Rattle.nametable.specs.Table.{word};
 ghost use Rattle.symbols.specs.Sections.{Holds, Numbers, next};
@@ -6,7 +8,7 @@ ghost use Rattle.symbols.specs.Sections.{Holds, Numbers, next};
 use nametable::number;
 
 // Where a sort's names stand, how many there may be, where the heads of its chains stand, and how many names it has.
-#[derive(Drop)]
+#[derive(Clone, Copy)]
 pub struct Section {
     pub from: usize,
     pub room: usize,

@@ -1,4 +1,6 @@
 // What printing and reading answer, each as the one number that C gets.
+#![tactic(auto)]
+
 ghost use Rattle.std.specs.Prelude.{◌≡◌};
 ghost use Rattle.textnumbers.specs.Numbers.{TextNarrow, text_number, ReadNarrow, read_number, as_text, query_number};
 

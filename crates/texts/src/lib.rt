@@ -1,4 +1,6 @@
 // Rules typed on a laptop (document 02, C-13).
+#![tactic(auto)]
+
 ghost use Rattle.std.specs.Prelude.{◌≡◌, ◌<◌, ◌≤◌, length};
 ghost use Rattle.storage.specs.Storage.{Written};
 ghost use Rattle.readouts.specs.Outcome.{refusal, read_answer, read_book, names_read};

@@ -1,5 +1,7 @@
 // A step that leaves goal and answer on the heap: the first clause that fits, found by trials, and its body in the place of the first formula; where it is not sure that
 // the next goal and answer have room, or what the clauses say, no step.
+#![tactic(auto)]
+
 ghost use Rattle.std.specs.Prelude.{◌≡◌, true, List, ◌∷◌, ℕ, ◌+◌, ◌<◌, ◌≤◌, length, take, drop};
 ghost use Rattle.terms.specs.Node.{Expr};
 ghost use Rattle.search.specs.Next.{Clause, Book, Goal, clause_at};
@@ -73,7 +75,7 @@ fn entered(heap: &[u32], levels: &mut [u16], s: Standing, body: usize, k: usize)
     }
 }
 
-#[derive(Drop)]
+#[derive(Clone, Copy)]
 pub enum Tread {
     Stays,
     Goes(Standing),

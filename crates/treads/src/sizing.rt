@@ -15,7 +15,7 @@ use figures::Figure;
 use heapgoals::Standing;
 
 // Where a clause stands in the book, where its head ends, how many formulas its body has, and its figure.
-#[derive(Drop)]
+#[derive(Clone, Copy)]
 pub struct Span {
     pub start: usize,
     pub head: usize,
@@ -26,7 +26,7 @@ pub struct Span {
 
 // What the body comes with: the next goal has so many nodes more, and so many less, and so many places of variables more; its first formula has so many nodes at least; and
 // all variables of the clause are below a number.
-#[derive(Drop)]
+#[derive(Clone, Copy)]
 pub struct Added {
     pub nodes: usize,
     pub less: usize,
@@ -74,7 +74,7 @@ fn body_adds(heap: &[u32], cells: &[u16], levels: &mut [u16], s: Standing, c: Sp
 }
 
 // The bounds of the next goal and answer; nodes OVER where they are not known to have room.
-#[derive(Drop)]
+#[derive(Clone, Copy)]
 pub struct Bounds {
     pub nodes: usize,
     pub found: usize,

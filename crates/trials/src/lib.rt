@@ -1,4 +1,6 @@
 // A trial on the heap: the row, the clause behind it, and what the trial binds; the first clause that fits.
+#![tactic(auto)]
+
 ghost use Rattle.std.specs.Prelude.{◌≡◌, ℕ, ◌<◌, ◌≤◌, length, take};
 ghost use Rattle.words.specs.Columns.{CELLS, WORDS};
 ghost use Rattle.heap.specs.Heap.{Made, Whole};
@@ -19,7 +21,7 @@ pub mod resetting; // no variable bound any more
 
 // Two rows on a heap where nothing is bound: equal now, with so many goal variables on the trail; or they can't be made equal; or nothing is
 // known. Only where they are equal is anything bound behind it.
-#[derive(Drop)]
+#[derive(Clone, Copy)]
 pub enum Attempt {
     Fits(usize),
     Clash,
@@ -107,7 +109,7 @@ fn try_clause(
 }
 
 // The first clause that fits, by its number, and how many goal variables its trial has bound; or nothing is known.
-#[derive(Drop)]
+#[derive(Clone, Copy)]
 pub enum Found {
     Clause(usize, usize),
     Unsure,

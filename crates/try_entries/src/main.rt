@@ -4,6 +4,8 @@
 // An item is its entry's number (1 byte), the length of what follows (4 bytes), and that: a book to check (1), or what goes to the check of a
 // query (2), a single step (3), a run (4), the run for C (5), a pick (6), an apply (7), and these two for C (8, 9), as lent.rt has it; and in the flat profile
 // the check of a book (10), that of a query (11), a single step (12) and a run (13), and these four for C (14 to 17); a book (18), a goal (19) or an answer (20) to be printed; a text to be read as rules (21), and one to be read as a query (22). Numbers are most significant byte first. A stream that ends inside an item, or has an item that is none of these, gets the line `damaged`, and no item after it is tried.
+#![tactic(auto)]
+
 mod entries;
 mod flat;
 mod lent;

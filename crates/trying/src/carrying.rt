@@ -10,7 +10,7 @@ use heap::walking::Walk;
 use heap::writing::{OVER, Pen, TIRED, write};
 
 // Where the clause's body, the rest of the goal and the answer stand on the heap, and how many formulas each has.
-#[derive(Drop)]
+#[derive(Clone, Copy)]
 pub struct Parts {
     pub body: usize,
     pub bodies: usize,
@@ -21,7 +21,7 @@ pub struct Parts {
 }
 
 // Nothing is known; the goal is too long; the answer is; or so many words of the goal are written, and so many of the answer.
-#[derive(Drop)]
+#[derive(Clone, Copy)]
 pub enum Next {
     Tired,
     Full,

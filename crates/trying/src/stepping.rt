@@ -19,7 +19,7 @@ use words::shelf::{BODY, HEAD, START, entry};
 
 // Of a row of words, a goal with its answer behind it: how many words it has, how many of them are the goal's and how many the goal's first
 // formula, and how many formulas goal and answer have.
-#[derive(Drop)]
+#[derive(Clone, Copy)]
 pub struct Shape {
     pub row: usize,
     pub goal: usize,
@@ -29,7 +29,7 @@ pub struct Shape {
 }
 
 // What a trial on the heap comes to; or nothing is known.
-#[derive(Drop)]
+#[derive(Clone, Copy)]
 pub enum Quick {
     Unsure,
     Sure(Move),
@@ -125,7 +125,7 @@ fn on_heap(
 }
 
 // Of a row: how many words are its goal's and how many its goal's first formula's, and how many formulas goal and answer have.
-#[derive(Drop)]
+#[derive(Clone, Copy)]
 pub struct Sides {
     pub words: usize,
     pub first: usize,

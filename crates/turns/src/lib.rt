@@ -1,4 +1,6 @@
 // Whether a text is a query's (document 02, C-13): each piece taken, or refused.
+#![tactic(auto)]
+
 ghost use Rattle.std.specs.Prelude.{◌≡◌, ◌≤◌, ◌<◌, length, ltb};
 ghost use Rattle.asking.specs.Asking.{asking};
 ghost use Rattle.halfway.specs.Stage.{Held, is_half, turned, Left, ends_at, start_stage};
@@ -10,7 +12,7 @@ use halfway::sizes::{place, size};
 use halfway::{Ended, Judged, Mode, Stage};
 use pieces::{Found, end_of, piece_at};
 
-#[derive(Drop)]
+#[derive(Clone, Copy)]
 pub struct TextCheck {
     pub code: u8,
     pub place: u32,

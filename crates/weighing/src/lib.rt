@@ -1,5 +1,7 @@
 // Why no clause fits (document 02, C-19): "the clause that got furthest (lowest number on equal counts)" and the argument at which its
 // head fails. A head begins with the word of its predicate and arity; one of another takes no part.
+#![tactic(auto)]
+
 ghost use Rattle.std.specs.Prelude.{◌≡◌, [], ◌∷◌, ℕ, ◌<◌, length, get_or};
 ghost use Rattle.terms.specs.Node.{Expr};
 ghost use Rattle.search.specs.Next.{Clause, Book, clause_at};
@@ -16,7 +18,7 @@ use words::shelf::{HEAD, START, clauses, entry};
 use words::word;
 
 // A clause's number, and the argument, from 1, at which its head fails; 0 where no head of the predicate and arity does.
-#[derive(Drop)]
+#[derive(Clone, Copy)]
 pub struct Figures {
     pub clause: usize,
     pub argument: usize,

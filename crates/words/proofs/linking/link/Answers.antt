@@ -1,9 +1,7 @@
-use Prim.Native.Nat.{ℕ, suc, ◌+◌, ◌-◌, ◌%◌, ◌≤◌}
+use Prim.Native.Nat.{suc, ◌%◌}
 use native.Mathlib.Omega.{arith}
-use mathlib.Core.Path.{◌≡◌, refl, sym as inv, ap, ◌∙◌}
-use lib.ListN.{length, get_or}
-use Rattle.words.specs.Held.{key}
-use Rattle.words.specs.Lists.{Built}
+use mathlib.Core.Path.{◌≡◌, refl, ap, ◌∙◌}
+use lib.ListN.{get_or}
 use Rattle.words.proofs.Links.{nothing-built, built-more}
 use borrow.Author.Rules.{rules}
 use Rattle.words.proofs.linking.link.Goals as goal

@@ -1,11 +1,8 @@
-use Prim.Native.Nat.{ℕ, suc, ◌+◌, ◌-◌, ◌%◌, ◌≤◌}
-use native.Mathlib.Omega.{arith}
-use mathlib.Core.Path.{◌≡◌, refl, sym as inv, ap, ◌∙◌}
-use lib.ListN.{length, get_or}
+use Prim.Native.Nat.{ℕ, ◌+◌, ◌-◌, ◌≤◌}
+use mathlib.Core.Path.{◌≡◌}
+use lib.ListN.{length}
 use Rattle.words.specs.Held.{key}
 use Rattle.words.specs.Lists.{Built}
-use Rattle.words.proofs.Links.{nothing-built, built-more}
-use borrow.Author.Rules.{rules}
 use Rattle.words.proofs.linking.link.Given as goal
 
 abbrev pub invariant-loop-k : goal.invariant-loop-k

@@ -1,6 +1,5 @@
 use native.Mathlib.Omega.{arith}
 use lib.ListN.{length-set}
-use borrow.Author.Rules.{rules}
 use Rattle.words.proofs.linking.prepend.Goals as goal
 
 pub bounds-shelf-h-2 : goal.bounds-shelf-h-2

@@ -1,11 +1,8 @@
-use Prim.Native.Nat.{ℕ, ◌-◌, ◌%◌, ◌≤◌, ◌<◌}
+use Prim.Native.Nat.{◌<◌}
 use native.Mathlib.Omega.{arith}
 use mathlib.Core.Path.{sym as inv, ◌∙◌}
 use lib.ListN.{length}
-use Rattle.search.specs.Next.{Book}
-use Rattle.words.specs.Held.{BookOn}
-use Rattle.words.specs.Lists.{OnList}
-use Rattle.words.proofs.Ways.{Going, going, going_on, found, none_found, start-inside, head_read}
+use Rattle.words.proofs.Ways.{going, going_on, found, none_found, start-inside, head_read}
 use borrow.Author.Rules.{rules}
 use Rattle.words.proofs.lists.along.Goals as goal
 

@@ -1,12 +1,9 @@
-use Prim.Native.Nat.{ℕ, ◌-◌, ◌%◌, ◌≤◌, ◌<◌}
-use native.Mathlib.Omega.{arith}
-use mathlib.Core.Path.{sym as inv, ◌∙◌}
+use Prim.Native.Nat.{ℕ, ◌-◌, ◌%◌, ◌≤◌}
 use lib.ListN.{length}
 use Rattle.search.specs.Next.{Book}
 use Rattle.words.specs.Held.{BookOn}
 use Rattle.words.specs.Lists.{OnList}
-use Rattle.words.proofs.Ways.{Going, going, going_on, found, none_found, start-inside, head_read}
-use borrow.Author.Rules.{rules}
+use Rattle.words.proofs.Ways.{Going}
 use Rattle.words.proofs.lists.along.Given as goal
 
 abbrev pub invariant-loop-i : goal.invariant-loop-i

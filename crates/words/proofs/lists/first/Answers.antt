@@ -1,6 +1,5 @@
 use Prim.Native.Nat.{◌%◌}
 use native.Mathlib.Omega.{arith}
-use borrow.Author.Rules.{rules}
 use Rattle.words.proofs.lists.first.Goals as goal
 
 pub get-requires : goal.get-requires

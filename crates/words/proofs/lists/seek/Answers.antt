@@ -1,11 +1,5 @@
-use Prim.Native.Nat.{ℕ, ◌-◌, ◌%◌}
 use native.Mathlib.Omega.{arith}
-use mathlib.Core.Path.{sym as inv}
-use mathlib.Core.List.{List}
-use lib.ListN.{length}
-use Rattle.search.specs.Next.{Book}
-use Rattle.words.specs.Held.{starts, key, BookOn}
-use Rattle.words.proofs.Ways.{Approaching, approach, nearer, arrived}
+use Rattle.words.proofs.Ways.{approach, nearer, arrived}
 use Rattle.words.proofs.lists.seek.Goals as goal
 
 pub first-i-requires : goal.first-i-requires

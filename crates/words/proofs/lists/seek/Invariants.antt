@@ -1,11 +1,9 @@
 use Prim.Native.Nat.{ℕ, ◌-◌, ◌%◌}
-use native.Mathlib.Omega.{arith}
-use mathlib.Core.Path.{sym as inv}
 use mathlib.Core.List.{List}
 use lib.ListN.{length}
 use Rattle.search.specs.Next.{Book}
 use Rattle.words.specs.Held.{starts, key, BookOn}
-use Rattle.words.proofs.Ways.{Approaching, approach, nearer, arrived}
+use Rattle.words.proofs.Ways.{Approaching}
 use Rattle.words.proofs.lists.seek.Given as goal
 
 abbrev pub invariant-loop-i : goal.invariant-loop-i

@@ -1,6 +1,5 @@
 use mathlib.Core.Path.{sym, ◌∙◌}
 use Rattle.words.specs.Columns.{column-at}
-use borrow.Author.Rules.{rules}
 use Rattle.words.proofs.rows.cell.Goals as goal
 
 pub returns : goal.returns

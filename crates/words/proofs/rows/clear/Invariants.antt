@@ -1,17 +1,8 @@
-use mathlib.Core.List.{List}
-use mathlib.Core.Path.{◌∙◌}
-use native.Mathlib.Decide.{dec_lt}
-use lib.ListN.{get_or-eq_default}
-use lib.Seq.{get_or-set_same, get_or-set_other}
-use borrow.Author.Count.{below_more}
-use Rattle.words.specs.Columns.{Put, same}
-use Prim.Native.Nat.{ℕ, ◌+◌, ◌-◌, ◌<◌, ◌≤◌}
-use native.Mathlib.Omega.{arith}
-use mathlib.Core.Path.{◌≡◌, refl}
+use Prim.Native.Nat.{ℕ, ◌-◌, ◌<◌, ◌≤◌}
+use mathlib.Core.Path.{◌≡◌}
 use mathlib.Core.List.{[], ◌∷◌}
-use lib.ListN.{length, get_or, set}
-use Rattle.words.specs.Columns.{column, Only, after, column-length}
-use borrow.Author.Rules.{rules}
+use lib.ListN.{length, get_or}
+use Rattle.words.specs.Columns.{column, Only}
 use Rattle.words.proofs.rows.clear.Given as goal
 
 abbrev pub invariant-loop-i : goal.invariant-loop-i

@@ -1,6 +1,5 @@
 use native.Mathlib.Omega.{arith}
 use Rattle.words.specs.Columns.{put-law}
-use borrow.Author.Rules.{rules}
 use Rattle.words.proofs.rows.put.Goals as goal
 
 pub returns : goal.returns

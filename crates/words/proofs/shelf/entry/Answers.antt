@@ -1,5 +1,4 @@
 use mathlib.Core.Path.{sym, ◌∙◌}
-use borrow.Author.Rules.{rules}
 use Rattle.words.specs.Columns.{every-at}
 use Rattle.words.proofs.shelf.entry.Goals as goal
 

@@ -1,0 +1,22 @@
+use Prim.Native.Nat.{ℕ, ◌+◌, ◌-◌, ◌<◌, ◌≤◌}
+use native.Mathlib.Omega.{arith}
+use mathlib.Core.Path.{◌≡◌, refl}
+use mathlib.Core.List.{List, [], ◌∷◌}
+use lib.ListN.{length, get_or}
+use borrow.Author.Count.{below_more}
+use mathlib.Core.Bool.{true, false}
+use Rattle.words.specs.Columns.{Only, same, after, CELLS, END, UP, PICK, LEFT, RIGHT, RANK}
+use Rattle.positions.specs.Ranking.{Settled}
+use Rattle.positions.specs.Diving.{Searched, Cyclic, Dive, Dived}
+use Rattle.positions.specs.Tables.{ends, ups, picks, lefts, rights, ranks, Search, Found}
+use borrow.Author.Rules.{rules}
+use Rattle.cycles.proofs.settle.Given as goal
+
+abbrev pub Held : List ℕ → List ℕ → List ℕ → List ℕ → List ℕ → List ℕ → List ℕ → ℕ → ℕ → Type 0
+Held w e up pick rank stack place s r = (r ≤ length w) × Dive w e up pick rank s stack place 0 × ((q : ℕ) → q < r → get_or up q 0 ≡ q → 0 < get_or rank q 0)
+
+abbrev pub invariant-loop-r : goal.invariant-loop-r
+invariant-loop-r l = Held l.words (ends l.words l.initial.rows) (ups l.words l.initial.rows) (picks l.words l.initial.rows) (ranks l.words l.rows) (lefts l.words l.rows) (rights l.words l.rows) l.s l.r × (length l.rows ≡ CELLS) × Only (LEFT ∷ RIGHT ∷ RANK ∷ []) l.initial.rows l.rows
+
+abbrev pub decreases-loop-r : goal.decreases-loop-r
+decreases-loop-r l = length l.words - l.r

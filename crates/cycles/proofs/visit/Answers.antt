@@ -1,0 +1,33 @@
+use Prim.Native.Nat.{ℕ, ◌<◌}
+use native.Mathlib.Omega.{arith}
+use mathlib.Core.Path.{◌≡◌, sym, ◌∙◌}
+use mathlib.Core.List.{List}
+use lib.ListN.{length, get_or}
+use Rattle.words.specs.Columns.{same}
+use Rattle.positions.specs.Tables.{ups, ranks, Search, Found}
+use borrow.Author.Rules.{rules}
+use Rattle.cycles.proofs.visit.Goals as goal
+
+idle : (w rows : List ℕ) (r stamp : ℕ) → Search w rows stamp → (get_or (ups w rows) r 0 ≡ r → 0 < get_or (ranks w rows) r 0) → Found w rows r stamp rows
+idle w rows r stamp se h = record {
+  cycle = λ y. absurd (omega (arith, y, se.dive.ranked.count, se.grouped.small));
+  dived = λ n. record { dive = se.dive; kept = λ q z. z; done = h };
+}
+
+pub cell-u-requires : goal.cell-u-requires
+cell-u-requires c = (search rules, omega (arith, c.requires.1.grouped.small, c.requires.2), search rules)
+
+pub cell-z-requires : goal.cell-z-requires
+cell-z-requires c = (search rules, omega (arith, c.requires.1.grouped.small, c.requires.2), search rules)
+
+pub dive-requires : goal.dive-requires
+dive-requires c = (search rules, c.requires.1, c.requires.2, sym (c.cell-u.ensures.0 _ c.requires.2) ∙ c.if-u-r.true, sym (c.cell-z.ensures.0 _ c.requires.2) ∙ c.if-z-eq0.true)
+
+pub returns-then-z-eq0 : goal.returns-then-z-eq0
+returns-then-z-eq0 c = c.dive.ensures
+
+pub returns-then-u-r : goal.returns-then-u-r
+returns-then-u-r c = (idle _ _ _ _ c.requires.1 (λ y. omega (arith, c.if-z-eq0.false, c.cell-z.ensures.0 _ c.requires.2)), same)
+
+pub returns : goal.returns
+returns c = (idle _ _ _ _ c.requires.1 (λ y. absurd (c.if-u-r.false (c.cell-u.ensures.0 _ c.requires.2 ∙ y))), same)

@@ -1,0 +1,21 @@
+use Prim.Native.Nat.{ℕ, ◌+◌, ◌-◌, ◌<◌, ◌≤◌}
+use native.Mathlib.Omega.{arith}
+use mathlib.Core.Path.{◌≡◌, refl, sym, ap, ◌∙◌}
+use mathlib.Core.List.{List, [], ◌∷◌}
+use lib.ListN.{length, get_or}
+use borrow.Author.Count.{below_more}
+use Rattle.words.specs.Word.{arity_of}
+use Rattle.words.specs.Columns.{Only, same, after, CELLS, END, UP, PICK, LEFT, RIGHT}
+use Rattle.positions.specs.Words.{child, Ends}
+use Rattle.positions.specs.Steps.{State, state, Args, Step, Fails, Outcome}
+use Rattle.positions.specs.Tables.{ends, state_in}
+use Rattle.joining.proofs.Stepping.{restated, followed, idle}
+use Rattle.positions.specs.TrialLaws.{next-argument}
+use borrow.Author.Rules.{rules}
+use Rattle.joining.proofs.spread.Given as goal
+
+abbrev pub invariant-loop-i : goal.invariant-loop-i
+invariant-loop-i l = (l.i ≤ l.k) × (l.k ≡ arity_of (get_or l.words l.x 0)) × (l.c ≡ child (ends l.words l.initial.rows) l.x l.i) × (l.d ≡ child (ends l.words l.initial.rows) l.y l.i) × Step l.words (state_in l.words l.initial.rows l.tail) (λ f. Args f (ends l.words l.initial.rows) l.i l.x l.y) (state_in l.words l.rows l.t) × (length l.rows ≡ CELLS) × Only (UP ∷ PICK ∷ LEFT ∷ RIGHT ∷ []) l.initial.rows l.rows
+
+abbrev pub decreases-loop-i : goal.decreases-loop-i
+decreases-loop-i l = l.k - l.i

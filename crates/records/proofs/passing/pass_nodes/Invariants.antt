@@ -1,0 +1,14 @@
+use borrow.Author.Rules.{rules}
+use Prim.Native.Nat.{◌-◌}
+use lib.ListN.{length}
+use mathlib.Core.Path.{◌≡◌, refl}
+use Rattle.format.specs.Arities.{recalled}
+use Rattle.records.specs.Passing.{Counted}
+use Rattle.records.proofs.Passed.{stays, PassesIn, passes-below, passes-again, counted-on, nearer}
+use Rattle.records.proofs.passing.pass_nodes.Given as goal
+
+abbrev pub invariant-loop-x : goal.invariant-loop-x
+invariant-loop-x l = PassesIn l.most l.limit l.bytes l.initial.x (recalled l.initial.table) l.x (recalled l.table) × Counted l.bytes l.x × (length l.table ≡ length l.initial.table)
+
+abbrev pub decreases-loop-x : goal.decreases-loop-x
+decreases-loop-x l = length l.bytes - l.x.at
