@@ -2,7 +2,7 @@
 use Rattle.std.specs.Prelude.{ℕ, zero, suc, ◌≡◌, refl, List, [], ◌∷◌}
 use Rattle.terms.specs.Node.{predicate, var, sym}
 use Rattle.search.specs.Next as Next
-use Rattle.grammar.specs.Names.{Sort, Constant, Compound, Predicate}
+use Rattle.grammar.specs.Names.{Constant, Compound, Predicate}
 use Rattle.printing.specs.Named.{Naming, printed}
 
 -- feeds and pipe

@@ -1,6 +1,6 @@
 -- A renumbered book has an image of the same length.
 use Rattle.std.specs.Prelude.{ℕ, suc, ◌≡◌, refl, List, [], ◌∷◌, ◌++◌, length}
-use Rattle.std.proofs.Common.{sym as inv, ap, ap₂, ◌∙◌, append_assoc, arith, length-append}
+use Rattle.std.proofs.Common.{sym as inv, ap, ◌∙◌, append_assoc, arith, length-append}
 use Rattle.terms.specs.Node.{constant, compound, predicate, Node, var, sym, Expr}
 use Rattle.search.specs.Next as Next
 use Rattle.words.specs.Flat.{flat}

@@ -1,7 +1,7 @@
 -- A book, or a goal, with names in the place of its numbers: the rules that are printed (document 02, C-14).
-use Rattle.std.specs.Prelude.{ℕ, zero, suc, ◌+◌, ◌/◌, ◌%◌, List, [], ◌∷◌, ◌++◌, map, ltb}
+use Rattle.std.specs.Prelude.{ℕ, zero, suc, ◌+◌, ◌/◌, ◌%◌, List, [], ◌∷◌, ◌++◌, ltb}
 use Rattle.terms.specs.When.{◌⇒◌∣◌}
-use Rattle.terms.specs.Node.{constant, compound, predicate, Node, var, sym, Expr}
+use Rattle.terms.specs.Node.{constant, compound, predicate, var, sym, Expr}
 use Rattle.search.specs.Next as Next
 use Rattle.grammar.specs.Syntax.{Terms, none, variable_then, name_then, Formula, Rule}
 use Rattle.grammar.specs.Names.{Sort, Constant, Compound, Predicate}

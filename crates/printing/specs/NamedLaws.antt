@@ -1,13 +1,13 @@
 -- The spots of what is named are the nodes, each with its name.
-use Rattle.std.specs.Prelude.{ℕ, zero, suc, ◌+◌, ◌≤◌, ◌≡◌, refl, List, [], ◌∷◌, ◌++◌, map, length}
+use Rattle.std.specs.Prelude.{ℕ, zero, suc, ◌+◌, ◌≤◌, ◌≡◌, refl, List, [], ◌∷◌, ◌++◌}
 use Rattle.std.proofs.Common.{sym as inv, ap, ◌∙◌, arith}
 use Rattle.terms.specs.Node.{constant, compound, predicate, Node, var, sym, Expr}
 use Rattle.search.specs.Next as Next
 use Rattle.words.specs.Flat.{flat}
 use Rattle.format.specs.Format as Format
 use Rattle.format.specs.Format.{terms_none, terms_var, terms_constant, terms_compound, formula, IsFormula, AreFormulas}
-use Rattle.grammar.specs.Syntax.{Terms, none, variable_then, name_then, Formula}
-use Rattle.grammar.specs.Names.{Sort, Constant, Compound, Predicate, Spot, variable_spot, symbol_spot, count, called, spots_then, formula_spots, formulas_spots}
+use Rattle.grammar.specs.Syntax.{Terms, none, variable_then, name_then}
+use Rattle.grammar.specs.Names.{Constant, Compound, Predicate, Spot, variable_spot, symbol_spot, count, called, spots_then, formula_spots, formulas_spots}
 use Rattle.printing.specs.Named.{Naming, variable_name, first_terms, later_terms, named_terms, named_formula, named_formulas}
 
 abbrev pub spot : Naming → Node → Spot
@@ -69,6 +69,10 @@ module _ (name : Naming) where
   pub formula_spotted : (e : Expr) → IsFormula e → formula_spots (named_formula name e) ≡ spots name e
   formula_spotted (sym (predicate p a) ∷ e) (formula h k t) =
       rw (terms-count e t) (ap (λ (l : List Spot). symbol_spot Predicate (name Predicate p) a ∷ l) (terms-spots e t))
+  formula_spotted [] x' = elim x' [ ]
+  formula_spotted (var _ ∷ e) x5 = elim x5 [ ]
+  formula_spotted (sym (constant _) ∷ e) x8 = elim x8 [ ]
+  formula_spotted (sym (compound _ _) ∷ e) x10 = elim x10 [ ]
 
   pub formulas_spotted : (g : Next.Goal) → AreFormulas g → formulas_spots (named_formulas name g) ≡ spots name (flat g)
   formulas_spotted [] h = refl

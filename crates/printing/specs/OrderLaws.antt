@@ -4,12 +4,10 @@ use Rattle.std.proofs.Common.{sym as inv, ap, ◌∙◌, subst, inl, inr, arith,
 use Rattle.terms.specs.Cases.{cases}
 use Rattle.terms.specs.When.{◌⇒◌∣◌}
 use Rattle.terms.specs.Node.{var, sym, Expr}
-use Rattle.search.specs.Next as Next
-use Rattle.words.specs.Flat.{flat}
 use Rattle.format.specs.Reading.{next_unused}
 use Rattle.format.proofs.Numbering.{unused-same, unused-other}
 use Rattle.grammar.specs.Syntax.{Rule}
-use Rattle.grammar.specs.Names.{Sort, Constant, Compound, Predicate, Spot, variable_spot, symbol_spot, place, within, grow, is_sort, names_after, with_variable, numbered, symbol_for, clause, rule_spots, text_spots, names, book}
+use Rattle.grammar.specs.Names.{Sort, Constant, Compound, Predicate, Spot, variable_spot, symbol_spot, place, within, grow, is_sort, names_after, with_variable, numbered, symbol_for, clause, rule_spots, text_spots}
 use Rattle.grammar.specs.NameLaws.{same_refl, place-within, flat-numbered}
 use Rattle.grammar.specs.GrowLaws.{place_after, within-after, within_grown, is-sort_self}
 use Rattle.printing.specs.Named.{Naming}

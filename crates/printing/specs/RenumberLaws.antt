@@ -4,15 +4,13 @@ use Rattle.std.proofs.Common.{ap, ap₂, ◌∙◌, arith, eqb-true}
 use Rattle.terms.specs.Node.{constant, compound, predicate, var, sym, Expr}
 use Rattle.terms.specs.Number.{grow, seen_after, number, number_all}
 use Rattle.search.specs.Next as Next
-use Rattle.words.specs.Flat.{flat}
 use Rattle.format.specs.Reading.{next_unused}
 use Rattle.format.specs.Format.{Below, AreFormulas, GoodClause, GoodClauses}
 use Rattle.terms.specs.Cases.{cases}
-use Rattle.format.proofs.Numbering.{Ordered, ordered, unused-same, unused-other}
+use Rattle.format.proofs.Numbering.{Ordered, unused-same, unused-other}
 use Rattle.std.proofs.lemmas.Bool.{eqb-false}
-use Rattle.grammar.specs.Syntax.{Rule}
-use Rattle.grammar.specs.Names.{Sort, place, variable_number, with_variable, variables_after, formula_spots, numbered, numbered_all, clause}
-use Rattle.printing.specs.Named.{Naming, variable_name, named_formula, named_formulas, named_rule, named_rules}
+use Rattle.grammar.specs.Names.{Sort, place, variables_after, numbered, numbered_all, clause}
+use Rattle.printing.specs.Named.{Naming, variable_name, named_formulas, named_rule, named_rules}
 use Rattle.printing.specs.NamedLaws.{spots, formula_spotted}
 use Rattle.printing.specs.DigitLaws.{name-one}
 use Rattle.printing.specs.VariableLaws.{Low, LowIn, formula-low, called, grow-called, grow-low, number-called, seen-called, seen_low}

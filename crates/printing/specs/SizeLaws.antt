@@ -1,7 +1,7 @@
 -- What is named keeps the sizes of the book and the spelling of its names; renumbering keeps the length of its image.
-use Rattle.std.specs.Prelude.{ℕ, zero, suc, ◌+◌, ◌≤◌, ◌≡◌, refl, List, [], ◌∷◌, ◌++◌, map, length}
-use Rattle.std.proofs.Common.{sym as inv, ap, ◌∙◌, inl, inr, arith, length-append}
-use Rattle.terms.specs.Node.{constant, compound, predicate, Node, var, sym, Expr}
+use Rattle.std.specs.Prelude.{ℕ, zero, suc, ◌≤◌, ◌≡◌, refl, List, [], ◌∷◌, length}
+use Rattle.std.proofs.Common.{ap, inl, inr, arith}
+use Rattle.terms.specs.Node.{constant, compound, predicate, var, sym, Expr}
 use Rattle.search.specs.Next as Next
 use Rattle.words.specs.Flat.{flat, flat-size}
 use Rattle.format.specs.Format as Format
@@ -15,7 +15,7 @@ use Rattle.printing.specs.SpacingLaws.{Right, RightFormula, RightFormulas, Right
 use Rattle.printing.specs.Named.{Naming, variable_name, first_terms, later_terms, named_terms, named_formula, named_formulas, named_rule, named_rules}
 use Rattle.printing.specs.NamedLaws.{spots, first_count, terms-count, formulas_spotted}
 use Rattle.printing.specs.DigitLaws.{name-right}
-use Rattle.printing.specs.Renumbered.{Renumbering, renumber_node, renumber, renumber_goal, renumber_clause, renumber_book, Uses, book_nodes}
+use Rattle.printing.specs.Renumbered.{Uses, book_nodes}
 use Rattle.printing.specs.RenumberLaws.{variables-low}
 use Rattle.printing.specs.UseLaws.{uses-left, uses-right}
 
@@ -82,6 +82,10 @@ module _ (name : Naming) where
         right = record { symbol = w.spelt; arguments = q.right };
         small = record { short = w.short; few = omega (arith, terms-count name e t); small = q.small };
       }
+  formula-proper [] x'' f = elim x'' [ ]
+  formula-proper (var _ ∷ e) x7 f = elim x7 [ ]
+  formula-proper (sym (constant _) ∷ e) x11 f = elim x11 [ ]
+  formula-proper (sym (compound _ _) ∷ e) x13 f = elim x13 [ ]
 
   pub formulas-right : (g : Next.Goal) → AreFormulas g → AllFit name (flat g) → RightFormulas (named_formulas name g)
   formulas-right [] h f = tt

@@ -1,10 +1,10 @@
 -- The text of rules whose names and variables are spelt rightly has just their tokens.
-use Rattle.std.specs.Prelude.{ℕ, ◌≡◌, refl, true, false, List, [], ◌∷◌, ◌++◌}
+use Rattle.std.specs.Prelude.{ℕ, ◌≡◌, refl, List, [], ◌∷◌}
 use Rattle.std.proofs.Common.{sym as inv, ap, ◌∙◌}
 use Rattle.grammar.specs.Byte.{small, capital, digit, goes_on, is_blank, is_percent, is_bracket, NextNot, IsName, IsVariable}
 use Rattle.grammar.specs.ByteLaws.{small-not-bracket}
-use Rattle.grammar.specs.Token.{Token, name, variable, opening, closing, comma, arrow, stop, Piece, token, blank, bytes, after_stop, Spaced, tokens, Spells}
-use Rattle.grammar.specs.Syntax.{Terms, none, variable_then, name_then, Formula, Rule, Turn, first, later, before, arguments_then, formula_then, body_then, written}
+use Rattle.grammar.specs.Token.{Token, name, variable, opening, comma, arrow, Piece, token, bytes, after_stop, Spaced, tokens}
+use Rattle.grammar.specs.Syntax.{Terms, none, variable_then, name_then, Formula, Rule, Turn, first, later, arguments_then, formula_then, body_then, written}
 use Rattle.grammar.specs.Query.{open_end, more_then, asked, Asks}
 use Rattle.grammar.specs.Reading.{Writes}
 use Rattle.printing.specs.Spacing.{arguments_laid, formula_laid, sign_laid, body_laid, laid, text, more_laid, goal_laid, goal_text}

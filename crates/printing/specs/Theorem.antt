@@ -1,6 +1,6 @@
 -- What is printed is read again (document 02, C-14): "Reading the text gives the same book if its symbols are already numbered as C-13 would; otherwise the same
 -- book up to a one-to-one renumbering of symbols."
-use Rattle.std.specs.Prelude.{ℕ, ◌≤◌, ◌<◌, ◌≡◌, refl, List, [], ◌∷◌, length}
+use Rattle.std.specs.Prelude.{ℕ, ◌≤◌, ◌<◌, ◌≡◌, refl, List, [], length}
 use Rattle.std.proofs.Common.{sym as inv, ap, ◌∙◌, subst, inl, inr, arith}
 use Rattle.search.specs.Next as Next
 use Rattle.format.specs.Format.{GoodBook, encode_book}
@@ -9,11 +9,9 @@ use Rattle.grammar.specs.Names.{Sort, place, text_spots, names, book, name_list}
 use Rattle.grammar.specs.Reading.{Sized, Reading, reading-one}
 use Rattle.printing.specs.SpacingLaws.{text-writes}
 use Rattle.printing.specs.Named.{Naming, named_rules, printed}
-use Rattle.printing.specs.NamedLaws.{spots}
 use Rattle.printing.specs.Renumbered.{Renumbering, renumber_book, Uses, book_nodes, OneToOne}
 use Rattle.printing.specs.RenumberLaws.{places, book-numbered}
 use Rattle.printing.specs.UseLaws.{names_are, Distinct, places-one, stays-book}
-use Rattle.printing.specs.FirstLaws.{names_below}
 use Rattle.printing.specs.OrderLaws.{Coded, book-coded, used_low, all-used, same_names, place-stays}
 use Rattle.printing.specs.SizeLaws.{AllFit, rules-small, rules-right, rules-length}
 use Rattle.printing.specs.ImageLaws.{book-long}

@@ -1,17 +1,17 @@
 -- The symbols that stand in a book: each has its name among the names of the text, and renumbering goes by them alone.
-use Rattle.std.specs.Prelude.{ℕ, ◌≤◌, ◌<◌, ◌≡◌, refl, ◌⊎◌, true, false}
+use Rattle.std.specs.Prelude.{ℕ, ◌≡◌, refl, true, false}
 use Rattle.std.proofs.Common.{sym as inv, ap, ap₂, ◌∙◌, inl, inr, arith}
 use mathlib.Core.List.{List, [], ◌∷◌, ◌++◌, head-eq_of_cons-eq, tail-eq_of_cons-eq}
 use Rattle.terms.specs.Cases.{cases}
 use Rattle.terms.specs.Node.{constant, compound, predicate, Node, var, sym, Expr}
 use Rattle.search.specs.Next as Next
 use Rattle.words.specs.Flat.{flat}
-use Rattle.format.specs.Format.{AreFormulas, GoodClauses}
-use Rattle.grammar.specs.Names.{Sort, Constant, Compound, Predicate, Spot, symbol_spot, symbol_for, same_name, place, within, grow, is_sort, names_after, rule_spots, text_spots, names}
+use Rattle.format.specs.Format.{GoodClauses}
+use Rattle.grammar.specs.Names.{Sort, Constant, Compound, Predicate, symbol_for, same_name, place, within, grow, is_sort, names_after, text_spots, names}
 use Rattle.grammar.specs.NameLaws.{same_true}
 use Rattle.grammar.specs.GrowLaws.{within-after, within_grown, is-sort_self}
 use Rattle.printing.specs.Named.{Naming, named_rules}
-use Rattle.printing.specs.NamedLaws.{spot, spots, spots-append, formulas_spotted}
+use Rattle.printing.specs.NamedLaws.{spots, spots-append, formulas_spotted}
 use Rattle.printing.specs.Renumbered.{Renumbering, renumber_node, renumber, renumber_goal, renumber_clause, renumber_book, Uses, book_nodes, OneToOne}
 use Rattle.printing.specs.RenumberLaws.{places}
 

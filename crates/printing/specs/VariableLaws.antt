@@ -1,5 +1,5 @@
 -- Variables that are named by their numbers: numbered by the first appearance of their names, they are numbered by their own.
-use Rattle.std.specs.Prelude.{ℕ, suc, ◌<◌, ◌≡◌, refl, true, false, List, [], ◌∷◌, ◌++◌, map, eqb, length}
+use Rattle.std.specs.Prelude.{ℕ, suc, ◌<◌, ◌≡◌, refl, false, List, [], ◌∷◌, ◌++◌, map, eqb, length}
 use Rattle.std.proofs.Common.{sym as inv, ap, ◌∙◌, arith, eqb-true}
 use Rattle.std.proofs.lemmas.Bool.{eqb-false}
 use Rattle.terms.specs.Node.{constant, compound, predicate, var, sym, Expr}
@@ -24,14 +24,19 @@ LowIn [] = Unit {0}
 LowIn (var v ∷ e) = (v < 65536) × LowIn e
 LowIn (sym s ∷ e) = LowIn e
 
-terms-low : {n : ℕ} (e : Expr) → Terms n e → LowIn e
+terms-low : (e : Expr) {n : ℕ} → Terms n e → LowIn e
 terms-low [] terms_none = tt
 terms-low (var v ∷ e) (terms_var h t) = (h, terms-low e t)
 terms-low (sym (constant c) ∷ e) (terms_constant h t) = terms-low e t
 terms-low (sym (compound f a) ∷ e) (terms_compound h l k t) = terms-low e t
+terms-low (sym (predicate _ _) ∷ e) {n = n} x7 = elim x7 [ ]
 
 pub formula-low : (e : Expr) → IsFormula e → LowIn e
 formula-low (sym (predicate p a) ∷ e) (formula h l t) = terms-low e t
+formula-low [] x' = elim x' [ ]
+formula-low (var _ ∷ e) x5 = elim x5 [ ]
+formula-low (sym (constant _) ∷ e) x8 = elim x8 [ ]
+formula-low (sym (compound _ _) ∷ e) x10 = elim x10 [ ]
 
 abbrev pub called : List ℕ → List (List ℕ)
 called = map variable_name
