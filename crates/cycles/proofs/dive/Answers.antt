@@ -5,7 +5,7 @@ use mathlib.Core.List.{List, [], ◌∷◌}
 use lib.ListN.{length, get_or, set}
 use lib.Seq.{get_or-set_same, get_or-set_other}
 use Rattle.words.specs.Word.{arity_of, Valids}
-use Rattle.words.specs.Columns.{Only, Put, same, after, wider, CELLS, END, UP, PICK, LEFT, RIGHT, RANK}
+use Rattle.words.specs.Columns.{Only, Put, same, after, wider, END, UP, PICK, LEFT, RIGHT, RANK}
 use Rattle.positions.specs.Words.{child}
 use Rattle.positions.specs.Classes.{root, Agree, Label, Grouped}
 use Rattle.positions.specs.Steps.{tally}
@@ -175,9 +175,6 @@ finish-in : (w rows z q : List ℕ) (from top s : ℕ) → length w ≤ 4352 →
 finish-in w rows z q from top s small o h e =
     rw (← o.kept END (length w) refl, ← o.kept UP (length w) refl, ← o.kept PICK (length w) refl, ← o.kept RANK (length w) refl) (finish w (ends w z) (ups w z) (picks w z) (ranks w z) from (ranks w q) (lefts w q) (rights w q) top s small h e)
 
-under_top : (c : goal.At-loop-top invariant_loop decreases_loop) → 0 < c.loop-top.top → c.loop-top.top - 1 < length c.args.words.now
-under_top c h = omega (arith, h, c.loop-top.invariant.0.0.count)
-
 pub put-requires : goal.put-requires
 put-requires c = (search rules, search rules, search rules, omega (arith, c.requires.1.grouped.small))
 
@@ -188,10 +185,15 @@ pub loop-top-init : goal.loop-top-init
 loop-top-init c = (begin-in _ _ _ _ _ _ c.requires.1 c.requires.2 c.requires.3 c.requires.4 c.put.ensures c.put-2.ensures, search rules, same)
 
 pub cell-r-requires : goal.cell-r-requires
-cell-r-requires c = (search rules, omega (arith, c.requires.1.grouped.small, under_top c c.loop-top-test.true), search rules)
+cell-r-requires c =
+    let under_top : 0 < c.loop-top.top → c.loop-top.top - 1 < length c.args.words.now = λ h. omega (arith, h, c.loop-top.invariant.0.0.count) in
+    (search rules, omega (arith, c.requires.1.grouped.small, under_top c.loop-top-test.true), search rules)
 
 pub cell-x-requires : goal.cell-x-requires
-cell-x-requires c = (search rules, omega (arith, c.requires.1.grouped.small, in_r_in ((let here : let l = c.loop-top in Top c.args.words.now c.put-2.new.rows l.rows c.args.from l.top l.s c.cell-r.result = let o = (let here : Only (LEFT ∷ RIGHT ∷ []) c.args.rows.now c.put-2.new.rows = after (wider (LEFT ∷ RIGHT ∷ []) refl c.put.ensures.only) (wider (LEFT ∷ RIGHT ∷ []) refl c.put-2.ensures.only) in here) in
+cell-x-requires c =
+    let opened : Only (LEFT ∷ RIGHT ∷ []) c.args.rows.now c.put-2.new.rows = after (wider (LEFT ∷ RIGHT ∷ []) refl c.put.ensures.only) (wider (LEFT ∷ RIGHT ∷ []) refl c.put-2.ensures.only) in
+    let under_top : 0 < c.loop-top.top → c.loop-top.top - 1 < length c.args.words.now = λ h. omega (arith, h, c.loop-top.invariant.0.0.count) in
+    let top-at : let l = c.loop-top in Top c.args.words.now c.put-2.new.rows l.rows c.args.from l.top l.s c.cell-r.result = let o = opened in
     let p = c.requires.1 in
     record {
       g = grouped-in _ _ _ o p.grouped;
@@ -200,11 +202,15 @@ cell-x-requires c = (search rules, omega (arith, c.requires.1.grouped.small, in_
       inv = c.loop-top.invariant.0;
       o = c.loop-top.invariant.2;
       pos = c.loop-top-test.true;
-      er = c.cell-r.ensures.0 _ (under_top c c.loop-top-test.true);
-    } in here))), search rules)
+      er = c.cell-r.ensures.0 _ (under_top c.loop-top-test.true);
+    } in
+    (search rules, omega (arith, c.requires.1.grouped.small, in_r_in (top-at)), search rules)
 
 pub lacking-k-requires : goal.lacking-k-requires
-lacking-k-requires c = (search rules, c.requires.1.grouped.small, again-in ((let here : let l = c.loop-top in Top c.args.words.now c.put-2.new.rows l.rows c.args.from l.top l.s c.cell-r.result = let o = (let here : Only (LEFT ∷ RIGHT ∷ []) c.args.rows.now c.put-2.new.rows = after (wider (LEFT ∷ RIGHT ∷ []) refl c.put.ensures.only) (wider (LEFT ∷ RIGHT ∷ []) refl c.put-2.ensures.only) in here) in
+lacking-k-requires c =
+    let opened : Only (LEFT ∷ RIGHT ∷ []) c.args.rows.now c.put-2.new.rows = after (wider (LEFT ∷ RIGHT ∷ []) refl c.put.ensures.only) (wider (LEFT ∷ RIGHT ∷ []) refl c.put-2.ensures.only) in
+    let under_top : 0 < c.loop-top.top → c.loop-top.top - 1 < length c.args.words.now = λ h. omega (arith, h, c.loop-top.invariant.0.0.count) in
+    let top-at : let l = c.loop-top in Top c.args.words.now c.put-2.new.rows l.rows c.args.from l.top l.s c.cell-r.result = let o = opened in
     let p = c.requires.1 in
     record {
       g = grouped-in _ _ _ o p.grouped;
@@ -213,35 +219,19 @@ lacking-k-requires c = (search rules, c.requires.1.grouped.small, again-in ((let
       inv = c.loop-top.invariant.0;
       o = c.loop-top.invariant.2;
       pos = c.loop-top-test.true;
-      er = c.cell-r.ensures.0 _ (under_top c c.loop-top-test.true);
-    } in here)), in_x_in ((let here : let l = c.loop-top in Top c.args.words.now c.put-2.new.rows l.rows c.args.from l.top l.s c.cell-r.result = let o = (let here : Only (LEFT ∷ RIGHT ∷ []) c.args.rows.now c.put-2.new.rows = after (wider (LEFT ∷ RIGHT ∷ []) refl c.put.ensures.only) (wider (LEFT ∷ RIGHT ∷ []) refl c.put-2.ensures.only) in here) in
-    let p = c.requires.1 in
-    record {
-      g = grouped-in _ _ _ o p.grouped;
-      se = searched-in _ _ _ o p.searched;
-      v = p.valid;
-      inv = c.loop-top.invariant.0;
-      o = c.loop-top.invariant.2;
-      pos = c.loop-top-test.true;
-      er = c.cell-r.ensures.0 _ (under_top c c.loop-top-test.true);
-    } in here)) ((let here : c.cell-x.result ≡ get_or (picks c.args.words.now c.loop-top.rows) c.cell-r.result 0 = c.cell-x.ensures.0 _ (in_r_in ((let here : let l = c.loop-top in Top c.args.words.now c.put-2.new.0 l.rows c.args.from l.top l.s c.cell-r.result = let o = (let here : Only (LEFT ∷ RIGHT ∷ []) c.args.rows.now c.put-2.new.0 = after (wider (LEFT ∷ RIGHT ∷ []) refl c.put.ensures.only) (wider (LEFT ∷ RIGHT ∷ []) refl c.put-2.ensures.only) in here) in
-    let p = c.requires.1 in
-    record {
-      g = grouped-in _ _ _ o p.grouped;
-      se = searched-in _ _ _ o p.searched;
-      v = p.valid;
-      inv = c.loop-top.invariant.0;
-      o = c.loop-top.invariant.2;
-      pos = c.loop-top-test.true;
-      er = c.cell-r.ensures.0 _ (under_top c c.loop-top-test.true);
-    } in here))) in here)))
+      er = c.cell-r.ensures.0 _ (under_top c.loop-top-test.true);
+    } in
+    let picked-at : c.cell-x.result ≡ get_or (picks c.args.words.now c.loop-top.rows) c.cell-r.result 0 = c.cell-x.ensures.0 _ (in_r_in (top-at)) in
+    (search rules, c.requires.1.grouped.small, again-in (top-at), in_x_in (top-at) (picked-at))
 
 pub cell-z-requires : goal.cell-z-requires
 cell-z-requires c = (search rules, omega (arith, c.requires.1.grouped.small, c.if-k-n.true), search rules)
 
 pub put-requires-then-z-eq0 : goal.put-requires-then-z-eq0
-put-requires-then-z-eq0 c = (search rules, omega (arith, c.requires.1.grouped.small, free_in ((let here : let l = c.loop-top in
-    Look c.args.words.now c.put-2.new.rows l.rows c.args.from l.top l.s c.cell-r.result c.cell-x.result c.lacking-k.result = record { at = (let here : let l = c.loop-top in Top c.args.words.now c.put-2.new.rows l.rows c.args.from l.top l.s c.cell-r.result = let o = (let here : Only (LEFT ∷ RIGHT ∷ []) c.args.rows.now c.put-2.new.rows = after (wider (LEFT ∷ RIGHT ∷ []) refl c.put.ensures.only) (wider (LEFT ∷ RIGHT ∷ []) refl c.put-2.ensures.only) in here) in
+put-requires-then-z-eq0 c =
+    let opened : Only (LEFT ∷ RIGHT ∷ []) c.args.rows.now c.put-2.new.rows = after (wider (LEFT ∷ RIGHT ∷ []) refl c.put.ensures.only) (wider (LEFT ∷ RIGHT ∷ []) refl c.put-2.ensures.only) in
+    let under_top : 0 < c.loop-top.top → c.loop-top.top - 1 < length c.args.words.now = λ h. omega (arith, h, c.loop-top.invariant.0.0.count) in
+    let top-at : let l = c.loop-top in Top c.args.words.now c.put-2.new.rows l.rows c.args.from l.top l.s c.cell-r.result = let o = opened in
     let p = c.requires.1 in
     record {
       g = grouped-in _ _ _ o p.grouped;
@@ -250,22 +240,18 @@ put-requires-then-z-eq0 c = (search rules, omega (arith, c.requires.1.grouped.sm
       inv = c.loop-top.invariant.0;
       o = c.loop-top.invariant.2;
       pos = c.loop-top-test.true;
-      er = c.cell-r.ensures.0 _ (under_top c c.loop-top-test.true);
-    } in here); ex = (let here : c.cell-x.result ≡ get_or (picks c.args.words.now c.loop-top.rows) c.cell-r.result 0 = c.cell-x.ensures.0 _ (in_r_in ((let here : let l = c.loop-top in Top c.args.words.now c.put-2.new.rows l.rows c.args.from l.top l.s c.cell-r.result = let o = (let here : Only (LEFT ∷ RIGHT ∷ []) c.args.rows.now c.put-2.new.rows = after (wider (LEFT ∷ RIGHT ∷ []) refl c.put.ensures.only) (wider (LEFT ∷ RIGHT ∷ []) refl c.put-2.ensures.only) in here) in
-    let p = c.requires.1 in
-    record {
-      g = grouped-in _ _ _ o p.grouped;
-      se = searched-in _ _ _ o p.searched;
-      v = p.valid;
-      inv = c.loop-top.invariant.0;
-      o = c.loop-top.invariant.2;
-      pos = c.loop-top-test.true;
-      er = c.cell-r.ensures.0 _ (under_top c c.loop-top-test.true);
-    } in here))) in here); op = c.lacking-k.ensures } in here)) _ c.if-k-n.true (c.cell-z.ensures.0 _ c.if-k-n.true) c.if-z-eq0.true), search rules, omega (arith, c.requires.1.grouped.small, c.if-k-n.true))
+      er = c.cell-r.ensures.0 _ (under_top c.loop-top-test.true);
+    } in
+    let picked-at : c.cell-x.result ≡ get_or (picks c.args.words.now c.loop-top.rows) c.cell-r.result 0 = c.cell-x.ensures.0 _ (in_r_in (top-at)) in
+    let look_at : let l = c.loop-top in
+    Look c.args.words.now c.put-2.new.rows l.rows c.args.from l.top l.s c.cell-r.result c.cell-x.result c.lacking-k.result = record { at = top-at; ex = picked-at; op = c.lacking-k.ensures } in
+    (search rules, omega (arith, c.requires.1.grouped.small, free_in (look_at) _ c.if-k-n.true (c.cell-z.ensures.0 _ c.if-k-n.true) c.if-z-eq0.true), search rules, omega (arith, c.requires.1.grouped.small, c.if-k-n.true))
 
 pub overflow_add-top : goal.overflow_add-top
-overflow_add-top c = omega (arith, c.requires.1.grouped.small, free_in ((let here : let l = c.loop-top in
-    Look c.args.words.now c.put-2.new.rows l.rows c.args.from l.top l.s c.cell-r.result c.cell-x.result c.lacking-k.result = record { at = (let here : let l = c.loop-top in Top c.args.words.now c.put-2.new.rows l.rows c.args.from l.top l.s c.cell-r.result = let o = (let here : Only (LEFT ∷ RIGHT ∷ []) c.args.rows.now c.put-2.new.rows = after (wider (LEFT ∷ RIGHT ∷ []) refl c.put.ensures.only) (wider (LEFT ∷ RIGHT ∷ []) refl c.put-2.ensures.only) in here) in
+overflow_add-top c =
+    let opened : Only (LEFT ∷ RIGHT ∷ []) c.args.rows.now c.put-2.new.rows = after (wider (LEFT ∷ RIGHT ∷ []) refl c.put.ensures.only) (wider (LEFT ∷ RIGHT ∷ []) refl c.put-2.ensures.only) in
+    let under_top : 0 < c.loop-top.top → c.loop-top.top - 1 < length c.args.words.now = λ h. omega (arith, h, c.loop-top.invariant.0.0.count) in
+    let top-at : let l = c.loop-top in Top c.args.words.now c.put-2.new.rows l.rows c.args.from l.top l.s c.cell-r.result = let o = opened in
     let p = c.requires.1 in
     record {
       g = grouped-in _ _ _ o p.grouped;
@@ -274,22 +260,18 @@ overflow_add-top c = omega (arith, c.requires.1.grouped.small, free_in ((let her
       inv = c.loop-top.invariant.0;
       o = c.loop-top.invariant.2;
       pos = c.loop-top-test.true;
-      er = c.cell-r.ensures.0 _ (under_top c c.loop-top-test.true);
-    } in here); ex = (let here : c.cell-x.result ≡ get_or (picks c.args.words.now c.loop-top.rows) c.cell-r.result 0 = c.cell-x.ensures.0 _ (in_r_in ((let here : let l = c.loop-top in Top c.args.words.now c.put-2.new.rows l.rows c.args.from l.top l.s c.cell-r.result = let o = (let here : Only (LEFT ∷ RIGHT ∷ []) c.args.rows.now c.put-2.new.rows = after (wider (LEFT ∷ RIGHT ∷ []) refl c.put.ensures.only) (wider (LEFT ∷ RIGHT ∷ []) refl c.put-2.ensures.only) in here) in
-    let p = c.requires.1 in
-    record {
-      g = grouped-in _ _ _ o p.grouped;
-      se = searched-in _ _ _ o p.searched;
-      v = p.valid;
-      inv = c.loop-top.invariant.0;
-      o = c.loop-top.invariant.2;
-      pos = c.loop-top-test.true;
-      er = c.cell-r.ensures.0 _ (under_top c c.loop-top-test.true);
-    } in here))) in here); op = c.lacking-k.ensures } in here)) _ c.if-k-n.true (c.cell-z.ensures.0 _ c.if-k-n.true) c.if-z-eq0.true)
+      er = c.cell-r.ensures.0 _ (under_top c.loop-top-test.true);
+    } in
+    let picked-at : c.cell-x.result ≡ get_or (picks c.args.words.now c.loop-top.rows) c.cell-r.result 0 = c.cell-x.ensures.0 _ (in_r_in (top-at)) in
+    let look_at : let l = c.loop-top in
+    Look c.args.words.now c.put-2.new.rows l.rows c.args.from l.top l.s c.cell-r.result c.cell-x.result c.lacking-k.result = record { at = top-at; ex = picked-at; op = c.lacking-k.ensures } in
+    omega (arith, c.requires.1.grouped.small, free_in (look_at) _ c.if-k-n.true (c.cell-z.ensures.0 _ c.if-k-n.true) c.if-z-eq0.true)
 
 pub put-requires-then-z-eq0-2 : goal.put-requires-then-z-eq0-2
-put-requires-then-z-eq0-2 c = (search rules, omega (arith, c.requires.1.grouped.small, c.if-k-n.true), search rules, omega (arith, c.requires.1.grouped.small, free_in ((let here : let l = c.loop-top in
-    Look c.args.words.now c.put-2.new.rows l.rows c.args.from l.top l.s c.cell-r.result c.cell-x.result c.lacking-k.result = record { at = (let here : let l = c.loop-top in Top c.args.words.now c.put-2.new.rows l.rows c.args.from l.top l.s c.cell-r.result = let o = (let here : Only (LEFT ∷ RIGHT ∷ []) c.args.rows.now c.put-2.new.rows = after (wider (LEFT ∷ RIGHT ∷ []) refl c.put.ensures.only) (wider (LEFT ∷ RIGHT ∷ []) refl c.put-2.ensures.only) in here) in
+put-requires-then-z-eq0-2 c =
+    let opened : Only (LEFT ∷ RIGHT ∷ []) c.args.rows.now c.put-2.new.rows = after (wider (LEFT ∷ RIGHT ∷ []) refl c.put.ensures.only) (wider (LEFT ∷ RIGHT ∷ []) refl c.put-2.ensures.only) in
+    let under_top : 0 < c.loop-top.top → c.loop-top.top - 1 < length c.args.words.now = λ h. omega (arith, h, c.loop-top.invariant.0.0.count) in
+    let top-at : let l = c.loop-top in Top c.args.words.now c.put-2.new.rows l.rows c.args.from l.top l.s c.cell-r.result = let o = opened in
     let p = c.requires.1 in
     record {
       g = grouped-in _ _ _ o p.grouped;
@@ -298,22 +280,18 @@ put-requires-then-z-eq0-2 c = (search rules, omega (arith, c.requires.1.grouped.
       inv = c.loop-top.invariant.0;
       o = c.loop-top.invariant.2;
       pos = c.loop-top-test.true;
-      er = c.cell-r.ensures.0 _ (under_top c c.loop-top-test.true);
-    } in here); ex = (let here : c.cell-x.result ≡ get_or (picks c.args.words.now c.loop-top.rows) c.cell-r.result 0 = c.cell-x.ensures.0 _ (in_r_in ((let here : let l = c.loop-top in Top c.args.words.now c.put-2.new.rows l.rows c.args.from l.top l.s c.cell-r.result = let o = (let here : Only (LEFT ∷ RIGHT ∷ []) c.args.rows.now c.put-2.new.rows = after (wider (LEFT ∷ RIGHT ∷ []) refl c.put.ensures.only) (wider (LEFT ∷ RIGHT ∷ []) refl c.put-2.ensures.only) in here) in
-    let p = c.requires.1 in
-    record {
-      g = grouped-in _ _ _ o p.grouped;
-      se = searched-in _ _ _ o p.searched;
-      v = p.valid;
-      inv = c.loop-top.invariant.0;
-      o = c.loop-top.invariant.2;
-      pos = c.loop-top-test.true;
-      er = c.cell-r.ensures.0 _ (under_top c c.loop-top-test.true);
-    } in here))) in here); op = c.lacking-k.ensures } in here)) _ c.if-k-n.true (c.cell-z.ensures.0 _ c.if-k-n.true) c.if-z-eq0.true))
+      er = c.cell-r.ensures.0 _ (under_top c.loop-top-test.true);
+    } in
+    let picked-at : c.cell-x.result ≡ get_or (picks c.args.words.now c.loop-top.rows) c.cell-r.result 0 = c.cell-x.ensures.0 _ (in_r_in (top-at)) in
+    let look_at : let l = c.loop-top in
+    Look c.args.words.now c.put-2.new.rows l.rows c.args.from l.top l.s c.cell-r.result c.cell-x.result c.lacking-k.result = record { at = top-at; ex = picked-at; op = c.lacking-k.ensures } in
+    (search rules, omega (arith, c.requires.1.grouped.small, c.if-k-n.true), search rules, omega (arith, c.requires.1.grouped.small, free_in (look_at) _ c.if-k-n.true (c.cell-z.ensures.0 _ c.if-k-n.true) c.if-z-eq0.true))
 
 pub loop-top-smaller-then-z-eq0 : goal.loop-top-smaller-then-z-eq0
-loop-top-smaller-then-z-eq0 c = omega (arith, smaller_in ((let here : let l = c.loop-top in
-    Look c.args.words.now c.put-2.new.rows l.rows c.args.from l.top l.s c.cell-r.result c.cell-x.result c.lacking-k.result = record { at = (let here : let l = c.loop-top in Top c.args.words.now c.put-2.new.rows l.rows c.args.from l.top l.s c.cell-r.result = let o = (let here : Only (LEFT ∷ RIGHT ∷ []) c.args.rows.now c.put-2.new.rows = after (wider (LEFT ∷ RIGHT ∷ []) refl c.put.ensures.only) (wider (LEFT ∷ RIGHT ∷ []) refl c.put-2.ensures.only) in here) in
+loop-top-smaller-then-z-eq0 c =
+    let opened : Only (LEFT ∷ RIGHT ∷ []) c.args.rows.now c.put-2.new.rows = after (wider (LEFT ∷ RIGHT ∷ []) refl c.put.ensures.only) (wider (LEFT ∷ RIGHT ∷ []) refl c.put-2.ensures.only) in
+    let under_top : 0 < c.loop-top.top → c.loop-top.top - 1 < length c.args.words.now = λ h. omega (arith, h, c.loop-top.invariant.0.0.count) in
+    let top-at : let l = c.loop-top in Top c.args.words.now c.put-2.new.rows l.rows c.args.from l.top l.s c.cell-r.result = let o = opened in
     let p = c.requires.1 in
     record {
       g = grouped-in _ _ _ o p.grouped;
@@ -322,22 +300,18 @@ loop-top-smaller-then-z-eq0 c = omega (arith, smaller_in ((let here : let l = c.
       inv = c.loop-top.invariant.0;
       o = c.loop-top.invariant.2;
       pos = c.loop-top-test.true;
-      er = c.cell-r.ensures.0 _ (under_top c c.loop-top-test.true);
-    } in here); ex = (let here : c.cell-x.result ≡ get_or (picks c.args.words.now c.loop-top.rows) c.cell-r.result 0 = c.cell-x.ensures.0 _ (in_r_in ((let here : let l = c.loop-top in Top c.args.words.now c.put-2.new.rows l.rows c.args.from l.top l.s c.cell-r.result = let o = (let here : Only (LEFT ∷ RIGHT ∷ []) c.args.rows.now c.put-2.new.rows = after (wider (LEFT ∷ RIGHT ∷ []) refl c.put.ensures.only) (wider (LEFT ∷ RIGHT ∷ []) refl c.put-2.ensures.only) in here) in
-    let p = c.requires.1 in
-    record {
-      g = grouped-in _ _ _ o p.grouped;
-      se = searched-in _ _ _ o p.searched;
-      v = p.valid;
-      inv = c.loop-top.invariant.0;
-      o = c.loop-top.invariant.2;
-      pos = c.loop-top-test.true;
-      er = c.cell-r.ensures.0 _ (under_top c c.loop-top-test.true);
-    } in here))) in here); op = c.lacking-k.ensures } in here)) _ c.if-k-n.true (c.cell-z.ensures.0 _ c.if-k-n.true) c.if-z-eq0.true _ _ c.put-then-z-eq0.ensures c.put-then-z-eq0-2.ensures)
+      er = c.cell-r.ensures.0 _ (under_top c.loop-top-test.true);
+    } in
+    let picked-at : c.cell-x.result ≡ get_or (picks c.args.words.now c.loop-top.rows) c.cell-r.result 0 = c.cell-x.ensures.0 _ (in_r_in (top-at)) in
+    let look_at : let l = c.loop-top in
+    Look c.args.words.now c.put-2.new.rows l.rows c.args.from l.top l.s c.cell-r.result c.cell-x.result c.lacking-k.result = record { at = top-at; ex = picked-at; op = c.lacking-k.ensures } in
+    omega (arith, smaller_in (look_at) _ c.if-k-n.true (c.cell-z.ensures.0 _ c.if-k-n.true) c.if-z-eq0.true _ _ c.put-then-z-eq0.ensures c.put-then-z-eq0-2.ensures)
 
 pub loop-top-preserved-then-z-eq0 : goal.loop-top-preserved-then-z-eq0
-loop-top-preserved-then-z-eq0 c = (pushes_in ((let here : let l = c.loop-top in
-    Look c.args.words.now c.put-2.new.rows l.rows c.args.from l.top l.s c.cell-r.result c.cell-x.result c.lacking-k.result = record { at = (let here : let l = c.loop-top in Top c.args.words.now c.put-2.new.rows l.rows c.args.from l.top l.s c.cell-r.result = let o = (let here : Only (LEFT ∷ RIGHT ∷ []) c.args.rows.now c.put-2.new.rows = after (wider (LEFT ∷ RIGHT ∷ []) refl c.put.ensures.only) (wider (LEFT ∷ RIGHT ∷ []) refl c.put-2.ensures.only) in here) in
+loop-top-preserved-then-z-eq0 c =
+    let opened : Only (LEFT ∷ RIGHT ∷ []) c.args.rows.now c.put-2.new.rows = after (wider (LEFT ∷ RIGHT ∷ []) refl c.put.ensures.only) (wider (LEFT ∷ RIGHT ∷ []) refl c.put-2.ensures.only) in
+    let under_top : 0 < c.loop-top.top → c.loop-top.top - 1 < length c.args.words.now = λ h. omega (arith, h, c.loop-top.invariant.0.0.count) in
+    let top-at : let l = c.loop-top in Top c.args.words.now c.put-2.new.rows l.rows c.args.from l.top l.s c.cell-r.result = let o = opened in
     let p = c.requires.1 in
     record {
       g = grouped-in _ _ _ o p.grouped;
@@ -346,22 +320,18 @@ loop-top-preserved-then-z-eq0 c = (pushes_in ((let here : let l = c.loop-top in
       inv = c.loop-top.invariant.0;
       o = c.loop-top.invariant.2;
       pos = c.loop-top-test.true;
-      er = c.cell-r.ensures.0 _ (under_top c c.loop-top-test.true);
-    } in here); ex = (let here : c.cell-x.result ≡ get_or (picks c.args.words.now c.loop-top.rows) c.cell-r.result 0 = c.cell-x.ensures.0 _ (in_r_in ((let here : let l = c.loop-top in Top c.args.words.now c.put-2.new.rows l.rows c.args.from l.top l.s c.cell-r.result = let o = (let here : Only (LEFT ∷ RIGHT ∷ []) c.args.rows.now c.put-2.new.rows = after (wider (LEFT ∷ RIGHT ∷ []) refl c.put.ensures.only) (wider (LEFT ∷ RIGHT ∷ []) refl c.put-2.ensures.only) in here) in
-    let p = c.requires.1 in
-    record {
-      g = grouped-in _ _ _ o p.grouped;
-      se = searched-in _ _ _ o p.searched;
-      v = p.valid;
-      inv = c.loop-top.invariant.0;
-      o = c.loop-top.invariant.2;
-      pos = c.loop-top-test.true;
-      er = c.cell-r.ensures.0 _ (under_top c c.loop-top-test.true);
-    } in here))) in here); op = c.lacking-k.ensures } in here)) _ c.if-k-n.true (c.cell-z.ensures.0 _ c.if-k-n.true) c.if-z-eq0.true _ _ c.put-then-z-eq0.ensures c.put-then-z-eq0-2.ensures, search rules, after c.loop-top.invariant.2 (after (wider (LEFT ∷ RIGHT ∷ RANK ∷ []) refl c.put-then-z-eq0.ensures.only) (wider (LEFT ∷ RIGHT ∷ RANK ∷ []) refl c.put-then-z-eq0-2.ensures.only)))
+      er = c.cell-r.ensures.0 _ (under_top c.loop-top-test.true);
+    } in
+    let picked-at : c.cell-x.result ≡ get_or (picks c.args.words.now c.loop-top.rows) c.cell-r.result 0 = c.cell-x.ensures.0 _ (in_r_in (top-at)) in
+    let look_at : let l = c.loop-top in
+    Look c.args.words.now c.put-2.new.rows l.rows c.args.from l.top l.s c.cell-r.result c.cell-x.result c.lacking-k.result = record { at = top-at; ex = picked-at; op = c.lacking-k.ensures } in
+    (pushes_in (look_at) _ c.if-k-n.true (c.cell-z.ensures.0 _ c.if-k-n.true) c.if-z-eq0.true _ _ c.put-then-z-eq0.ensures c.put-then-z-eq0-2.ensures, search rules, after c.loop-top.invariant.2 (after (wider (LEFT ∷ RIGHT ∷ RANK ∷ []) refl c.put-then-z-eq0.ensures.only) (wider (LEFT ∷ RIGHT ∷ RANK ∷ []) refl c.put-then-z-eq0-2.ensures.only)))
 
 pub returns-else-z-eq0 : goal.returns-else-z-eq0
-returns-else-z-eq0 c = (record { cycle = λ y. cyclic-in _ _ _ ((let here : Only (LEFT ∷ RIGHT ∷ []) c.args.rows.now c.put-2.new.rows = after (wider (LEFT ∷ RIGHT ∷ []) refl c.put.ensures.only) (wider (LEFT ∷ RIGHT ∷ []) refl c.put-2.ensures.only) in here)) (cycles_in ((let here : let l = c.loop-top in
-    Look c.args.words.now c.put-2.new.rows l.rows c.args.from l.top l.s c.cell-r.result c.cell-x.result c.lacking-k.result = record { at = (let here : let l = c.loop-top in Top c.args.words.now c.put-2.new.rows l.rows c.args.from l.top l.s c.cell-r.result = let o = (let here : Only (LEFT ∷ RIGHT ∷ []) c.args.rows.now c.put-2.new.rows = after (wider (LEFT ∷ RIGHT ∷ []) refl c.put.ensures.only) (wider (LEFT ∷ RIGHT ∷ []) refl c.put-2.ensures.only) in here) in
+returns-else-z-eq0 c =
+    let opened : Only (LEFT ∷ RIGHT ∷ []) c.args.rows.now c.put-2.new.rows = after (wider (LEFT ∷ RIGHT ∷ []) refl c.put.ensures.only) (wider (LEFT ∷ RIGHT ∷ []) refl c.put-2.ensures.only) in
+    let under_top : 0 < c.loop-top.top → c.loop-top.top - 1 < length c.args.words.now = λ h. omega (arith, h, c.loop-top.invariant.0.0.count) in
+    let top-at : let l = c.loop-top in Top c.args.words.now c.put-2.new.rows l.rows c.args.from l.top l.s c.cell-r.result = let o = opened in
     let p = c.requires.1 in
     record {
       g = grouped-in _ _ _ o p.grouped;
@@ -370,21 +340,18 @@ returns-else-z-eq0 c = (record { cycle = λ y. cyclic-in _ _ _ ((let here : Only
       inv = c.loop-top.invariant.0;
       o = c.loop-top.invariant.2;
       pos = c.loop-top-test.true;
-      er = c.cell-r.ensures.0 _ (under_top c c.loop-top-test.true);
-    } in here); ex = (let here : c.cell-x.result ≡ get_or (picks c.args.words.now c.loop-top.rows) c.cell-r.result 0 = c.cell-x.ensures.0 _ (in_r_in ((let here : let l = c.loop-top in Top c.args.words.now c.put-2.new.rows l.rows c.args.from l.top l.s c.cell-r.result = let o = (let here : Only (LEFT ∷ RIGHT ∷ []) c.args.rows.now c.put-2.new.rows = after (wider (LEFT ∷ RIGHT ∷ []) refl c.put.ensures.only) (wider (LEFT ∷ RIGHT ∷ []) refl c.put-2.ensures.only) in here) in
-    let p = c.requires.1 in
-    record {
-      g = grouped-in _ _ _ o p.grouped;
-      se = searched-in _ _ _ o p.searched;
-      v = p.valid;
-      inv = c.loop-top.invariant.0;
-      o = c.loop-top.invariant.2;
-      pos = c.loop-top-test.true;
-      er = c.cell-r.ensures.0 _ (under_top c c.loop-top-test.true);
-    } in here))) in here); op = c.lacking-k.ensures } in here)) _ c.if-k-n.true (c.cell-z.ensures.0 _ c.if-k-n.true) c.if-z-eq0.false); dived = λ n. absurd (n refl) }, after (wider (LEFT ∷ RIGHT ∷ RANK ∷ []) refl ((let here : Only (LEFT ∷ RIGHT ∷ []) c.args.rows.now c.put-2.new.rows = after (wider (LEFT ∷ RIGHT ∷ []) refl c.put.ensures.only) (wider (LEFT ∷ RIGHT ∷ []) refl c.put-2.ensures.only) in here))) c.loop-top.invariant.2)
+      er = c.cell-r.ensures.0 _ (under_top c.loop-top-test.true);
+    } in
+    let picked-at : c.cell-x.result ≡ get_or (picks c.args.words.now c.loop-top.rows) c.cell-r.result 0 = c.cell-x.ensures.0 _ (in_r_in (top-at)) in
+    let look_at : let l = c.loop-top in
+    Look c.args.words.now c.put-2.new.rows l.rows c.args.from l.top l.s c.cell-r.result c.cell-x.result c.lacking-k.result = record { at = top-at; ex = picked-at; op = c.lacking-k.ensures } in
+    (record { cycle = λ y. cyclic-in _ _ _ (opened) (cycles_in (look_at) _ c.if-k-n.true (c.cell-z.ensures.0 _ c.if-k-n.true) c.if-z-eq0.false); dived = λ n. absurd (n refl) }, after (wider (LEFT ∷ RIGHT ∷ RANK ∷ []) refl (opened)) c.loop-top.invariant.2)
 
 pub put-requires-else-k-n : goal.put-requires-else-k-n
-put-requires-else-k-n c = (search rules, omega (arith, c.requires.1.grouped.small, in_r_in ((let here : let l = c.loop-top in Top c.args.words.now c.put-2.new.rows l.rows c.args.from l.top l.s c.cell-r.result = let o = (let here : Only (LEFT ∷ RIGHT ∷ []) c.args.rows.now c.put-2.new.rows = after (wider (LEFT ∷ RIGHT ∷ []) refl c.put.ensures.only) (wider (LEFT ∷ RIGHT ∷ []) refl c.put-2.ensures.only) in here) in
+put-requires-else-k-n c =
+    let opened : Only (LEFT ∷ RIGHT ∷ []) c.args.rows.now c.put-2.new.rows = after (wider (LEFT ∷ RIGHT ∷ []) refl c.put.ensures.only) (wider (LEFT ∷ RIGHT ∷ []) refl c.put-2.ensures.only) in
+    let under_top : 0 < c.loop-top.top → c.loop-top.top - 1 < length c.args.words.now = λ h. omega (arith, h, c.loop-top.invariant.0.0.count) in
+    let top-at : let l = c.loop-top in Top c.args.words.now c.put-2.new.rows l.rows c.args.from l.top l.s c.cell-r.result = let o = opened in
     let p = c.requires.1 in
     record {
       g = grouped-in _ _ _ o p.grouped;
@@ -393,8 +360,9 @@ put-requires-else-k-n c = (search rules, omega (arith, c.requires.1.grouped.smal
       inv = c.loop-top.invariant.0;
       o = c.loop-top.invariant.2;
       pos = c.loop-top-test.true;
-      er = c.cell-r.ensures.0 _ (under_top c c.loop-top-test.true);
-    } in here))), search rules, omega (arith, c.requires.1.grouped.small, c.loop-top.invariant.0.0.ranked.count))
+      er = c.cell-r.ensures.0 _ (under_top c.loop-top-test.true);
+    } in
+    (search rules, omega (arith, c.requires.1.grouped.small, in_r_in (top-at)), search rules, omega (arith, c.requires.1.grouped.small, c.loop-top.invariant.0.0.ranked.count))
 
 pub overflow_add-s : goal.overflow_add-s
 overflow_add-s c = omega (arith, c.requires.1.grouped.small, c.loop-top.invariant.0.0.ranked.count)
@@ -403,8 +371,10 @@ pub loop-top-smaller : goal.loop-top-smaller
 loop-top-smaller c = omega (arith, ap (tally blank 0) (c.put-else-k-n.ensures.only.kept RIGHT (length c.args.words.now) refl))
 
 pub loop-top-preserved : goal.loop-top-preserved
-loop-top-preserved c = (pops_in ((let here : let l = c.loop-top in
-    Look c.args.words.now c.put-2.new.rows l.rows c.args.from l.top l.s c.cell-r.result c.cell-x.result c.lacking-k.result = record { at = (let here : let l = c.loop-top in Top c.args.words.now c.put-2.new.rows l.rows c.args.from l.top l.s c.cell-r.result = let o = (let here : Only (LEFT ∷ RIGHT ∷ []) c.args.rows.now c.put-2.new.rows = after (wider (LEFT ∷ RIGHT ∷ []) refl c.put.ensures.only) (wider (LEFT ∷ RIGHT ∷ []) refl c.put-2.ensures.only) in here) in
+loop-top-preserved c =
+    let opened : Only (LEFT ∷ RIGHT ∷ []) c.args.rows.now c.put-2.new.rows = after (wider (LEFT ∷ RIGHT ∷ []) refl c.put.ensures.only) (wider (LEFT ∷ RIGHT ∷ []) refl c.put-2.ensures.only) in
+    let under_top : 0 < c.loop-top.top → c.loop-top.top - 1 < length c.args.words.now = λ h. omega (arith, h, c.loop-top.invariant.0.0.count) in
+    let top-at : let l = c.loop-top in Top c.args.words.now c.put-2.new.rows l.rows c.args.from l.top l.s c.cell-r.result = let o = opened in
     let p = c.requires.1 in
     record {
       g = grouped-in _ _ _ o p.grouped;
@@ -413,18 +383,14 @@ loop-top-preserved c = (pops_in ((let here : let l = c.loop-top in
       inv = c.loop-top.invariant.0;
       o = c.loop-top.invariant.2;
       pos = c.loop-top-test.true;
-      er = c.cell-r.ensures.0 _ (under_top c c.loop-top-test.true);
-    } in here); ex = (let here : c.cell-x.result ≡ get_or (picks c.args.words.now c.loop-top.rows) c.cell-r.result 0 = c.cell-x.ensures.0 _ (in_r_in ((let here : let l = c.loop-top in Top c.args.words.now c.put-2.new.rows l.rows c.args.from l.top l.s c.cell-r.result = let o = (let here : Only (LEFT ∷ RIGHT ∷ []) c.args.rows.now c.put-2.new.rows = after (wider (LEFT ∷ RIGHT ∷ []) refl c.put.ensures.only) (wider (LEFT ∷ RIGHT ∷ []) refl c.put-2.ensures.only) in here) in
-    let p = c.requires.1 in
-    record {
-      g = grouped-in _ _ _ o p.grouped;
-      se = searched-in _ _ _ o p.searched;
-      v = p.valid;
-      inv = c.loop-top.invariant.0;
-      o = c.loop-top.invariant.2;
-      pos = c.loop-top-test.true;
-      er = c.cell-r.ensures.0 _ (under_top c c.loop-top-test.true);
-    } in here))) in here); op = c.lacking-k.ensures } in here)) _ c.if-k-n.false c.put-else-k-n.ensures, search rules, after c.loop-top.invariant.2 (wider (LEFT ∷ RIGHT ∷ RANK ∷ []) refl c.put-else-k-n.ensures.only))
+      er = c.cell-r.ensures.0 _ (under_top c.loop-top-test.true);
+    } in
+    let picked-at : c.cell-x.result ≡ get_or (picks c.args.words.now c.loop-top.rows) c.cell-r.result 0 = c.cell-x.ensures.0 _ (in_r_in (top-at)) in
+    let look_at : let l = c.loop-top in
+    Look c.args.words.now c.put-2.new.rows l.rows c.args.from l.top l.s c.cell-r.result c.cell-x.result c.lacking-k.result = record { at = top-at; ex = picked-at; op = c.lacking-k.ensures } in
+    (pops_in (look_at) _ c.if-k-n.false c.put-else-k-n.ensures, search rules, after c.loop-top.invariant.2 (wider (LEFT ∷ RIGHT ∷ RANK ∷ []) refl c.put-else-k-n.ensures.only))
 
 pub returns : goal.returns
-returns c = (finish-in _ _ _ _ _ c.loop-top.top _ c.requires.1.grouped.small ((let here : Only (LEFT ∷ RIGHT ∷ []) c.args.rows.now c.put-2.new.rows = after (wider (LEFT ∷ RIGHT ∷ []) refl c.put.ensures.only) (wider (LEFT ∷ RIGHT ∷ []) refl c.put-2.ensures.only) in here)) c.loop-top.invariant.0 (omega (arith, c.loop-top-test.false)), after (wider (LEFT ∷ RIGHT ∷ RANK ∷ []) refl ((let here : Only (LEFT ∷ RIGHT ∷ []) c.args.rows.now c.put-2.new.rows = after (wider (LEFT ∷ RIGHT ∷ []) refl c.put.ensures.only) (wider (LEFT ∷ RIGHT ∷ []) refl c.put-2.ensures.only) in here))) c.loop-top.invariant.2)
+returns c =
+    let opened : Only (LEFT ∷ RIGHT ∷ []) c.args.rows.now c.put-2.new.rows = after (wider (LEFT ∷ RIGHT ∷ []) refl c.put.ensures.only) (wider (LEFT ∷ RIGHT ∷ []) refl c.put-2.ensures.only) in
+    (finish-in _ _ _ _ _ c.loop-top.top _ c.requires.1.grouped.small (opened) c.loop-top.invariant.0 (omega (arith, c.loop-top-test.false)), after (wider (LEFT ∷ RIGHT ∷ RANK ∷ []) refl (opened)) c.loop-top.invariant.2)

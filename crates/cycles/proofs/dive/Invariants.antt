@@ -1,21 +1,12 @@
-use Prim.Native.Nat.{ℕ, ◌+◌, ◌-◌, ◌<◌, ◌≤◌}
-use native.Mathlib.Omega.{arith}
-use mathlib.Core.Path.{◌≡◌, refl, sym, ap, ◌∙◌}
+use Prim.Native.Nat.{ℕ, ◌+◌, ◌<◌}
+use mathlib.Core.Path.{◌≡◌}
 use mathlib.Core.List.{List, [], ◌∷◌}
-use lib.ListN.{length, get_or, set}
-use lib.Seq.{get_or-set_same, get_or-set_other}
-use Rattle.words.specs.Word.{arity_of, Valids}
-use Rattle.words.specs.Columns.{Only, Put, same, after, wider, CELLS, END, UP, PICK, LEFT, RIGHT, RANK}
-use Rattle.positions.specs.Words.{child}
-use Rattle.positions.specs.Classes.{root, Agree, Label, Grouped}
+use lib.ListN.{length, get_or}
+use Rattle.words.specs.Columns.{Only, CELLS, LEFT, RIGHT, RANK}
 use Rattle.positions.specs.Steps.{tally}
-use Rattle.positions.specs.Closing.{Good}
-use Rattle.positions.specs.Ranking.{under, blank}
-use Rattle.positions.specs.Diving.{Searched, Opened, Cyclic, Dive, Diving}
-use Rattle.positions.specs.Tables.{ends, ups, picks, lefts, rights, ranks, Search, Found}
-use Rattle.positions.specs.RootLaws.{root_fix}
-use Rattle.cycles.proofs.Dives.{pick-in, shorter, fewer, room, pushed, popped, keeps, ranks as ranks-in, cyclic, unplaced}
-use borrow.Author.Rules.{rules}
+use Rattle.positions.specs.Ranking.{blank}
+use Rattle.positions.specs.Diving.{Dive}
+use Rattle.positions.specs.Tables.{ends, ups, picks, lefts, rights, ranks}
 use Rattle.cycles.proofs.dive.Given as goal
 
 abbrev pub Held : List ℕ → List ℕ → List ℕ → List ℕ → List ℕ → ℕ → List ℕ → List ℕ → List ℕ → ℕ → ℕ → Type 0

@@ -1,18 +1,10 @@
-use Prim.Native.Nat.{ℕ, ◌+◌, ◌-◌, ◌<◌, ◌≤◌}
-use native.Mathlib.Omega.{arith}
-use mathlib.Core.Path.{◌≡◌, sym, ap, ◌∙◌}
-use mathlib.Core.List.{List}
-use lib.ListN.{length, get_or}
-use borrow.Author.Count.{below_more}
+use Prim.Native.Nat.{ℕ, ◌-◌, ◌<◌, ◌≤◌}
+use mathlib.Core.Path.{◌≡◌}
+use lib.ListN.{get_or}
 use Rattle.words.specs.Word.{arity_of}
 use Rattle.positions.specs.Words.{child}
-use Rattle.positions.specs.Classes.{root}
 use Rattle.positions.specs.Ranking.{under}
-use Rattle.positions.specs.Diving.{Searched, Opened}
 use Rattle.positions.specs.Tables.{ends, ups, ranks}
-use Rattle.positions.specs.RootLaws.{root_le}
-use Rattle.positions.specs.TrialLaws.{next-argument}
-use borrow.Author.Rules.{rules}
 use Rattle.cycles.proofs.lacking.Given as goal
 
 abbrev pub invariant-loop-i : goal.invariant-loop-i

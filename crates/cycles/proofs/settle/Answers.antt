@@ -1,13 +1,13 @@
-use Prim.Native.Nat.{ℕ, ◌+◌, ◌-◌, ◌<◌, ◌≤◌}
+use Prim.Native.Nat.{ℕ, ◌+◌, ◌<◌, ◌≤◌}
 use native.Mathlib.Omega.{arith}
 use mathlib.Core.Path.{◌≡◌, refl}
 use mathlib.Core.List.{List, [], ◌∷◌}
 use lib.ListN.{length, get_or}
 use borrow.Author.Count.{below_more}
-use mathlib.Core.Bool.{true, false}
-use Rattle.words.specs.Columns.{Only, same, after, CELLS, END, UP, PICK, LEFT, RIGHT, RANK}
+use mathlib.Core.Bool.{true}
+use Rattle.words.specs.Columns.{Only, same, after, END, UP, PICK, LEFT, RIGHT, RANK}
 use Rattle.positions.specs.Ranking.{Settled}
-use Rattle.positions.specs.Diving.{Searched, Cyclic, Dive, Dived}
+use Rattle.positions.specs.Diving.{Cyclic, Dived}
 use Rattle.positions.specs.Tables.{ends, ups, picks, lefts, rights, ranks, Search, Found}
 use borrow.Author.Rules.{rules}
 use Rattle.cycles.proofs.settle.Invariants.{Held}

@@ -1,15 +1,10 @@
-use Prim.Native.Nat.{ℕ, ◌+◌, ◌-◌, ◌<◌, ◌≤◌}
-use native.Mathlib.Omega.{arith}
-use mathlib.Core.Path.{◌≡◌, refl}
+use Prim.Native.Nat.{ℕ, ◌-◌, ◌<◌, ◌≤◌}
+use mathlib.Core.Path.{◌≡◌}
 use mathlib.Core.List.{List, [], ◌∷◌}
 use lib.ListN.{length, get_or}
-use borrow.Author.Count.{below_more}
-use mathlib.Core.Bool.{true, false}
-use Rattle.words.specs.Columns.{Only, same, after, CELLS, END, UP, PICK, LEFT, RIGHT, RANK}
-use Rattle.positions.specs.Ranking.{Settled}
-use Rattle.positions.specs.Diving.{Searched, Cyclic, Dive, Dived}
-use Rattle.positions.specs.Tables.{ends, ups, picks, lefts, rights, ranks, Search, Found}
-use borrow.Author.Rules.{rules}
+use Rattle.words.specs.Columns.{Only, CELLS, LEFT, RIGHT, RANK}
+use Rattle.positions.specs.Diving.{Dive}
+use Rattle.positions.specs.Tables.{ends, ups, picks, lefts, rights, ranks}
 use Rattle.cycles.proofs.settle.Given as goal
 
 abbrev pub Held : List ℕ → List ℕ → List ℕ → List ℕ → List ℕ → List ℕ → List ℕ → ℕ → ℕ → Type 0

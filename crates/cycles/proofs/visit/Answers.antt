@@ -2,7 +2,7 @@ use Prim.Native.Nat.{ℕ, ◌<◌}
 use native.Mathlib.Omega.{arith}
 use mathlib.Core.Path.{◌≡◌, sym, ◌∙◌}
 use mathlib.Core.List.{List}
-use lib.ListN.{length, get_or}
+use lib.ListN.{get_or}
 use Rattle.words.specs.Columns.{same}
 use Rattle.positions.specs.Tables.{ups, ranks, Search, Found}
 use borrow.Author.Rules.{rules}
