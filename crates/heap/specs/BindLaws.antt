@@ -1,10 +1,10 @@
 -- One more variable is bound: what the heap means then, and when it would mean nothing.
-use Rattle.std.specs.Prelude.{ℕ, zero, suc, ◌+◌, ◌%◌, ◌<◌, ◌≤◌, ◌≡◌, refl, ◌↔◌, List, [], ◌∷◌, ◌++◌, length, get_or, set}
+use Rattle.std.specs.Prelude.{ℕ, suc, ◌%◌, ◌<◌, ◌≡◌, refl, ◌↔◌, List, [], ◌∷◌, length, get_or, set}
 use Rattle.std.proofs.Common.{arith, sym as inv, ap, ◌∙◌, subst, inl, inr, append-nil, length-set, get_or-set_same, get_or-set_other}
 use Rattle.std.proofs.Math.Decide.{ℕ_discrete}
 use Rattle.terms.specs.Node.{var, sym, Expr}
 use Rattle.terms.specs.Row.{Row, row_var, row_sym, row_end}
-use Rattle.terms.specs.Subst.{In, Subst, Proper, apply, after, itself, only}
+use Rattle.terms.specs.Subst.{In, Subst, apply, after, itself, only}
 use Rattle.terms.specs.SubstLaws.{in-length, apply-on, apply-after, apply-row, only-cases, only_same, only-proper, only_fixed}
 use Rattle.words.specs.Word.{kind_of, Fits}
 use Rattle.heap.specs.Heap.{rows, Whole, bound, Made, Solves, Solved}

@@ -1,13 +1,13 @@
 -- Past bound variables.
-use Rattle.std.specs.Prelude.{ℕ, suc, ◌-◌, ◌%◌, ◌<◌, ◌≤◌, ◌≡◌, refl, List, [], ◌∷◌, ◌++◌, eqb, length, get_or}
-use Rattle.std.proofs.Common.{arith, eq-eqb, ne_eqb, sym as inv, ap, ◌∙◌, subst, append-nil}
+use Rattle.std.specs.Prelude.{ℕ, suc, ◌-◌, ◌%◌, ◌<◌, ◌≤◌, ◌≡◌, refl, List, ◌∷◌, eqb, length, get_or}
+use Rattle.std.proofs.Common.{arith, eq-eqb, ne_eqb, sym as inv, ap, ◌∙◌, append-nil}
 use Rattle.std.proofs.Math.Decide.{ℕ_discrete}
 use Rattle.terms.specs.Node.{var}
 use Rattle.terms.specs.When.{◌⇒◌∣◌}
 use Rattle.terms.specs.Subst.{Subst, apply}
 use Rattle.words.specs.Word.{kind_of}
 use Rattle.heap.specs.Heap.{rows, Whole, bound, Made, Solves}
-use Rattle.heap.specs.HeapLaws.{rows_none, row_inside, rows-var, whole-var-back}
+use Rattle.heap.specs.HeapLaws.{rows_none, row_inside, rows-var}
 
 -- the row at q stands for what the one at p does
 pub record SameRow (heap cells : List ℕ) (p q : ℕ) : Type 0 where

@@ -1,11 +1,11 @@
 -- Rows of the heap, node by node.
-use Rattle.std.specs.Prelude.{ℕ, zero, suc, ◌+◌, ◌-◌, ◌%◌, ◌<◌, ◌≤◌, ◌≡◌, refl, List, [], ◌∷◌, ◌++◌, length, get_or, drop, take}
+use Rattle.std.specs.Prelude.{ℕ, suc, ◌+◌, ◌-◌, ◌%◌, ◌<◌, ◌≤◌, ◌≡◌, refl, List, [], ◌∷◌, ◌++◌, length, get_or, drop, take}
 use Rattle.std.proofs.Common.{arith, sym as inv, ap, ap₂, ◌∙◌, subst, append-nil, append_assoc, take-append-drop, length-take, length-drop, drop_of_length-le, drop-cons, drop-drop}
 use Rattle.std.proofs.Math.Decide.{ℕ_discrete, dec_lt}
 use Rattle.std.proofs.lemmas.List.{length-map}
 use Rattle.std.proofs.Math.Seq.{drop-append_seam}
 use Rattle.terms.specs.Node.{Symbol, arity, var, sym, Expr}
-use Rattle.terms.specs.Row.{Row, row_end, row_var, row_sym, span}
+use Rattle.terms.specs.Row.{Row, row_var, row_sym, span}
 use Rattle.terms.specs.RowLaws.{row-long, row-split, first-row}
 use Rattle.terms.specs.Subst.{Subst, apply}
 use Rattle.terms.specs.Argument.{firsts}

@@ -1,8 +1,7 @@
 -- A walk that is written in part.
-use Rattle.std.specs.Prelude.{ℕ, zero, suc, ◌+◌, ◌*◌, ◌<◌, ◌≤◌, ◌≡◌, refl, List, [], ◌∷◌, ◌++◌, length, get_or, set}
+use Rattle.std.specs.Prelude.{ℕ, suc, ◌<◌, ◌≤◌, ◌≡◌, refl, List, [], ◌∷◌, ◌++◌, length, get_or, set}
 use Rattle.std.proofs.Common.{arith, sym as inv, ap, ◌∙◌, subst, append-nil, append_assoc, length-append, get_or-set_same}
 use Rattle.terms.specs.Node.{Expr}
-use Rattle.terms.specs.Row.{Row}
 use Rattle.terms.specs.RowLaws.{row-long}
 use Rattle.terms.specs.Subst.{Subst, apply}
 use Rattle.terms.specs.SubstLaws.{apply-row}

@@ -1,14 +1,14 @@
 -- Symbols are written as they are.
-use Rattle.std.specs.Prelude.{ℕ, zero, suc, ◌+◌, ◌-◌, ◌<◌, ◌≤◌, ◌≡◌, refl, List, [], ◌∷◌, ◌++◌, length, get_or, take, set}
-use Rattle.std.proofs.Common.{arith, sym as inv, ap, ap₂, ◌∙◌, subst, append_assoc, length-set, take-suc-set}
+use Rattle.std.specs.Prelude.{ℕ, suc, ◌+◌, ◌-◌, ◌<◌, ◌≤◌, ◌≡◌, refl, List, [], ◌∷◌, ◌++◌, length, get_or, take, set}
+use Rattle.std.proofs.Common.{arith, sym as inv, ap, ◌∙◌, subst, append_assoc, length-set, take-suc-set}
 use Rattle.std.proofs.lemmas.List.{map-append}
-use Rattle.terms.specs.Node.{sym, Expr}
+use Rattle.terms.specs.Node.{Expr}
 use Rattle.terms.specs.Subst.{Subst, apply}
 use Rattle.terms.specs.Number.{seen_after, number}
-use Rattle.words.specs.Word.{kind_of, arity_of, Plain, Valid, Valids, Fit, Fits, node, nodes}
+use Rattle.words.specs.Word.{arity_of, Plain, Valid, Valids, Fit, Fits, node, nodes}
 use Rattle.words.specs.WordLaws.{node-sym, each_append, each_make}
 use Rattle.numbering.specs.Naming.{table, back, Table}
-use Rattle.heap.specs.Heap.{rows, Whole, Solved}
+use Rattle.heap.specs.Heap.{rows, Whole}
 use Rattle.heap.specs.HeapLaws.{row_inside, rows_few, whole-sym, stands-symbol}
 use Rattle.heap.specs.Walking.{behind, ahead, settled, settled_at}
 use Rattle.heap.specs.WalkLaws.{settled-ahead, settled-ready}

@@ -1,15 +1,14 @@
 -- What the heap means is one, and most general; and a variable more that is bound.
-use Rattle.std.specs.Prelude.{ℕ, zero, suc, ◌+◌, ◌%◌, ◌<◌, ◌≤◌, ◌≡◌, refl, ◌⊎◌, List, [], ◌∷◌, ◌++◌, length, get_or, set}
-use Rattle.std.proofs.Common.{arith, sym as inv, ap, ◌∙◌, subst, inl, inr, append-nil, length-append, length-set, get_or-set_same, get_or-set_other}
+use Rattle.std.specs.Prelude.{ℕ, zero, suc, ◌+◌, ◌%◌, ◌<◌, ◌≤◌, ◌≡◌, refl, List, ◌∷◌, length, get_or}
+use Rattle.std.proofs.Common.{arith, sym as inv, ap, ◌∙◌, subst, inl, inr, append-nil}
 use Rattle.std.proofs.Math.Decide.{ℕ_discrete}
 use Rattle.terms.specs.Node.{var, sym, Expr}
-use Rattle.terms.specs.Row.{Row, row_var, row_sym, row_end}
 use Rattle.terms.specs.RowLaws.{row-long}
-use Rattle.terms.specs.Subst.{In, Subst, Proper, apply, after, itself, only}
-use Rattle.terms.specs.SubstLaws.{in-apply, in-length, apply-on, apply-after, apply-itself, apply-row, only-cases, only_same, only-proper, only_fixed}
-use Rattle.words.specs.Word.{kind_of, arity_of, node}
+use Rattle.terms.specs.Subst.{In, Subst, apply, after, itself}
+use Rattle.terms.specs.SubstLaws.{in-apply, in-length, apply-on, apply-after, apply-itself}
+use Rattle.words.specs.Word.{kind_of, arity_of}
 use Rattle.words.specs.WordLaws.{node-sym}
-use Rattle.heap.specs.Heap.{rows, Whole, bound, Made, Solves, Solved}
+use Rattle.heap.specs.Heap.{rows, bound, Made, Solves, Solved}
 use Rattle.heap.specs.HeapLaws.{rows_none, row_inside, rows-var, rows-sym}
 
 -- What a variable stands for is longer than what those in its row stand for, or its row is one of a lower number.

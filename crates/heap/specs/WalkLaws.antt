@@ -1,13 +1,13 @@
 -- What a walk comes to next.
 use Rattle.std.specs.Prelude.{ℕ, zero, suc, ◌+◌, ◌*◌, ◌-◌, ◌%◌, ◌<◌, ◌≤◌, ◌≡◌, refl, List, [], ◌∷◌, ◌++◌, length, get_or, set}
-use Rattle.std.proofs.Common.{arith, eq-eqb, ne_eqb, sym as inv, ap, ap₂, ◌∙◌, subst, append-nil, append_assoc, length-set, get_or-set_same, get_or-set_other}
+use Rattle.std.proofs.Common.{arith, eq-eqb, ne_eqb, sym as inv, ap, ap₂, ◌∙◌, subst, append_assoc, length-set, get_or-set_same, get_or-set_other}
 use Rattle.std.proofs.Math.Decide.{ℕ_discrete}
-use Rattle.terms.specs.Node.{Symbol, arity, var, sym, Expr}
+use Rattle.terms.specs.Node.{sym, Expr}
 use Rattle.terms.specs.Row.{Row, row_end}
-use Rattle.terms.specs.Subst.{Subst, apply, itself}
+use Rattle.terms.specs.Subst.{Subst, apply}
 use Rattle.words.specs.Word.{kind_of, arity_of, Fit, node}
 use Rattle.words.specs.WordLaws.{node-var, node-sym}
-use Rattle.heap.specs.Heap.{rows, Whole, bound, Made, Solved}
+use Rattle.heap.specs.Heap.{rows, Whole, Made, Solved}
 use Rattle.heap.specs.HeapLaws.{rows_none, row_inside, rows_few, rows-var, rows-sym, stands-var, stands-sym, whole-var, whole-var-back, whole-sym}
 use Rattle.heap.specs.Following.{Followed}
 use Rattle.heap.specs.Walking.{level_at, level_due, behind, ahead, Levels, Ready, settled, settled_at, entered, pushed, Visited}

@@ -1,13 +1,12 @@
 -- Writing node by node.
-use Rattle.std.specs.Prelude.{ℕ, zero, suc, ◌+◌, ◌<◌, ◌≤◌, ◌≡◌, refl, List, [], ◌∷◌, ◌++◌, length, get_or, take, set}
-use Rattle.std.proofs.Common.{arith, sym as inv, ap, ap₂, ◌∙◌, subst, append-nil, append_assoc, length-append, length-set, take-suc, length-take-le, get_or-take, get_or-set_same, get_or-set_other, ext_get_or}
-use Rattle.std.proofs.Math.Decide.{dec_lt}
+use Rattle.std.specs.Prelude.{ℕ, suc, ◌<◌, ◌≤◌, ◌≡◌, refl, List, [], ◌∷◌, ◌++◌, length, get_or, take, set}
+use Rattle.std.proofs.Common.{arith, sym as inv, ap, ◌∙◌, subst, append-nil, append_assoc, length-append, length-set, take-suc, length-take-le, get_or-take, get_or-set_same, get_or-set_other, ext_get_or}
 use Rattle.std.proofs.lemmas.List.{map-append}
 use Rattle.terms.specs.Node.{Expr}
 use Rattle.terms.specs.Number.{seen_after, number}
 use Rattle.terms.specs.NumberLaws.{seen-append, number_append}
 use Rattle.words.specs.Word.{Fit, Fits, node, nodes}
-use Rattle.words.specs.WordLaws.{each_append, each_make, fits_more}
+use Rattle.words.specs.WordLaws.{each_append, each_make}
 use Rattle.numbering.specs.Naming.{table, back, Table, Named, NamedAt}
 use Rattle.heap.specs.Writing.{Writes}
 use Rattle.heap.specs.declared.writing.Pen.{Pen}

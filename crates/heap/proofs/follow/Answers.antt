@@ -1,5 +1,4 @@
-use Rattle.heap.specs.Following.{SameRow, rank, same_start, follow_symbol, in_table, follow_free, follow_on, follow_less}
-use borrow.Author.Rules.{rules}
+use Rattle.heap.specs.Following.{same_start, follow_symbol, in_table, follow_free, follow_on, follow_less}
 use Rattle.heap.proofs.follow.Goals as goal
 
 pub loop-p-init : goal.loop-p-init

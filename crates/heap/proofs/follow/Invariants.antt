@@ -1,5 +1,4 @@
-use Rattle.heap.specs.Following.{SameRow, rank, same_start, follow_symbol, in_table, follow_free, follow_on, follow_less}
-use borrow.Author.Rules.{rules}
+use Rattle.heap.specs.Following.{SameRow, rank}
 use Rattle.heap.proofs.follow.Given as goal
 
 abbrev pub invariant-loop-p : goal.invariant-loop-p

@@ -1,8 +1,5 @@
-use Prim.Native.Nat.{◌-◌}
 use native.Mathlib.Omega.{arith}
-use lib.ListN.{length}
-use Rattle.heap.specs.HeapLaws.{Passing, pass-start, pass-inside, pass-few, pass_on, pass-end}
-use borrow.Author.Rules.{rules}
+use Rattle.heap.specs.HeapLaws.{pass-start, pass-inside, pass-few, pass_on, pass-end}
 use Rattle.heap.proofs.past.Goals as goal
 
 pub loop-due-init : goal.loop-due-init

@@ -1,8 +1,6 @@
 use Prim.Native.Nat.{◌-◌}
-use native.Mathlib.Omega.{arith}
 use lib.ListN.{length}
-use Rattle.heap.specs.HeapLaws.{Passing, pass-start, pass-inside, pass-few, pass_on, pass-end}
-use borrow.Author.Rules.{rules}
+use Rattle.heap.specs.HeapLaws.{Passing}
 use Rattle.heap.proofs.past.Given as goal
 
 abbrev pub invariant-loop-due : goal.invariant-loop-due

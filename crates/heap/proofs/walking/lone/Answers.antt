@@ -1,6 +1,4 @@
-use native.Mathlib.Omega.{arith}
 use Rattle.heap.specs.LoneLaws.{lone-symbol, lone_leaf, lone-none}
-use borrow.Author.Rules.{rules}
 use Rattle.heap.proofs.walking.lone.Goals as goal
 
 pub returns-then-u-ge-SYMBOL : goal.returns-then-u-ge-SYMBOL

@@ -1,8 +1,6 @@
 use Rattle.heap.specs.WalkLaws.{settled-due, settled-last, settled_before}
-use Rattle.heap.specs.Walking.{level_at, level_due}
-use mathlib.Core.Path.{refl, ap, ◌∙◌}
+use mathlib.Core.Path.{refl}
 use native.Mathlib.Omega.{arith}
-use borrow.Author.Rules.{rules}
 use Rattle.heap.proofs.walking.settled.Goals as goal
 
 pub returns-then-w-gt0 : goal.returns-then-w-gt0

@@ -1,14 +1,11 @@
-use Prim.Native.Nat.{◌-◌}
 use native.Mathlib.Omega.{arith}
-use mathlib.Core.Path.{◌≡◌, refl, ◌∙◌}
-use lib.ListN.{length, length-set}
-use Rattle.heap.specs.Writing.{Copied}
+use mathlib.Core.Path.{refl, ◌∙◌}
+use lib.ListN.{length-set}
 use Rattle.heap.specs.RunLaws.{copied_none, copied-inside, copied-few, copied_more}
-use borrow.Author.Rules.{rules}
 use Rattle.heap.proofs.writing.symbols.Goals as goal
 
 pub loop-due-init : goal.loop-due-init
-loop-due-init c = let k = c.requires in (copied_none _ _ _ _ k.0.2 k.1.0, refl)
+loop-due-init c = let k = c.requires in (copied_none _ _ _ _ k.valids.2 k.pen_le_limit.0, refl)
 
 pub shape_of-out-then-pen-limit : goal.shape_of-out-then-pen-limit
 shape_of-out-then-pen-limit c = c.loop-due.invariant.1
@@ -41,7 +38,7 @@ pub loop-due-smaller : goal.loop-due-smaller
 loop-due-smaller c = omega (arith, c.loop-due.invariant.0.high, c.if-pen-limit.false)
 
 pub loop-due-preserved : goal.loop-due-preserved
-loop-due-preserved c = let i = c.loop-due.invariant in let k = c.requires in (copied_more i.0 c.loop-due-test.true k.0.0 c.word-u.ensures (omega (arith, c.if-u-lt-SYMBOL.false)) c.if-pen-limit.false k.1.2 c.arity.ensures.0 (omega arith) refl (omega arith), length-set c.loop-due.out c.loop-due.pen c.word-u.result ∙ i.1)
+loop-due-preserved c = let i = c.loop-due.invariant in let k = c.requires in (copied_more i.0 c.loop-due-test.true k.valids.0 c.word-u.ensures (omega (arith, c.if-u-lt-SYMBOL.false)) c.if-pen-limit.false k.pen_le_limit.2 c.arity.ensures.0 (omega arith) refl (omega arith), length-set c.loop-due.out c.loop-due.pen c.word-u.result ∙ i.1)
 
 pub shape_of-out : goal.shape_of-out
 shape_of-out c = c.loop-due.invariant.1
