@@ -121,7 +121,7 @@ pub ruleset passed = (stays, passes-constant, passes-variable, passes-compound, 
 
 -- Several
 
-leads-on : {form : Form} {s : List ℕ} {last mid first : State} {end at begin : ℕ} {left m before : Memory} →
+leads-on : {form : Form} {s : List ℕ} {last mid : State} {end at : ℕ} {left m : Memory} {first : State} {begin : ℕ} {before : Memory} →
     Leads form s mid at m first begin before → Leads form s last end left mid at m → Leads form s last end left first begin before
 leads-on there more = more
 leads-on (taking l j rest) more = taking l j (leads-on rest more)
@@ -145,7 +145,7 @@ record Later (s : List ℕ) (at end : ℕ) (last : State) : Type 0 where
   pub within : Within end last
   pub later : at ≤ end
 
-leads-later : {form : Form} {s : List ℕ} {last state : State} {end at : ℕ} {left m : Memory} → Leads form s last end left state at m → at ≤ length s → Within at state →
+leads-later : {form : Form} {s : List ℕ} {last : State} {end : ℕ} {left : Memory} {state : State} {at : ℕ} {m : Memory} → Leads form s last end left state at m → at ≤ length s → Within at state →
     Later s at end last
 leads-later there b w = record { bound = b; within = w; later = omega arith }
 leads-later {form} {s} (taking {state} {next} {at} {m} l j rest) b w =
@@ -170,7 +170,7 @@ module _ {form : Form} {s : List ℕ} {x y : Open} {m m' : Memory} (p : Passes f
   pub nearer : (y.at ≡ x.at → ⊥) → length s - y.at < length s - x.at
   nearer n = omega (arith, moved.later, moved.bound, n)
 
-leads-going : {form : Form} {s : List ℕ} {before left m : Memory} {last state : State} {end at : ℕ} → Leads form s last end left state at m → Going form s before state at m →
+leads-going : {form : Form} {s : List ℕ} {before : Memory} {last : State} {end : ℕ} {left : Memory} {state : State} {at : ℕ} {m : Memory} → Leads form s last end left state at m → Going form s before state at m →
     Going form s before last end left
 leads-going there g = g
 leads-going {form} {s} {before} (taking {state} {next} {at} {m} l j rest) g = leads-going rest (going_next form s before state at m next g l j)

@@ -1,6 +1,5 @@
 use native.Mathlib.Omega.{arith}
 use mathlib.Core.Path.{refl}
-use borrow.Author.Rules.{rules}
 use Rattle.records.proofs.Tables.{by-book, by-query}
 use Rattle.records.proofs.Turns.{says-by}
 use Rattle.records.proofs.check_both.Goals as goal
@@ -11,7 +10,7 @@ returns-then-found-eq0 c =
     let z = c.if-found-eq0.true in
     let none = b.requires in
     let good = b.check_input-found.ensures.answer.told (λ e. omega (arith, z, e)) in
-    says-by b.check_input-found.auto.table.1.0 (by-query _ _ _ none _ good z _ b.check_input-found.ensures.met _) c.check_input.ensures.answer
+    says-by b.check_input-found.auto.table (by-query _ _ _ none _ good z _ b.check_input-found.ensures.met _) c.check_input.ensures.answer
 
 pub returns : goal.returns
 returns c =

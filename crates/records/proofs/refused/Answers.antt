@@ -1,6 +1,5 @@
 use Rattle.format.proofs.Taken.{base-small, number_small}
 use native.Mathlib.Omega.{arith}
-use borrow.Author.Rules.{rules}
 use Rattle.records.proofs.refused.Goals as goal
 
 pub overflow_add-result : goal.overflow_add-result

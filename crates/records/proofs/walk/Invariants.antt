@@ -1,13 +1,8 @@
-use borrow.Author.Rules.{rules}
-use native.Mathlib.Omega.{arith}
 use Prim.Native.Nat.{◌-◌}
 use lib.ListN.{length}
 use mathlib.Core.Path.{◌≡◌}
 use Rattle.format.specs.Arities.{recalled}
-use Rattle.format.proofs.Taken.{small}
 use Rattle.format.proofs.Going.{Going}
-use Rattle.records.proofs.Turns.{says, too_wide, turns}
-use Rattle.records.proofs.Passed.{counted-there, further, going-passed}
 use Rattle.records.proofs.walk.Given as goal
 
 abbrev pub invariant-loop-at : goal.invariant-loop-at

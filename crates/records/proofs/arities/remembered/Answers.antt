@@ -1,6 +1,5 @@
 use mathlib.Core.Path.{sym as inv}
 use lib.ListN.{get_or-eq_default}
-use borrow.Author.Rules.{rules}
 use Rattle.records.proofs.arities.remembered.Goals as goal
 
 pub returns-then-table-p : goal.returns-then-table-p

@@ -1,4 +1,3 @@
-use borrow.Author.Rules.{rules}
 use borrow.Author.Tests.{eq-eqb}
 use Rattle.records.proofs.Tables.{same_test}
 use Rattle.records.proofs.arities.same.Goals as goal

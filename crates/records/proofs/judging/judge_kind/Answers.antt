@@ -1,5 +1,4 @@
 use Rattle.records.proofs.Steps.{steps}
-use borrow.Author.Rules.{rules}
 use Rattle.records.proofs.judging.judge_kind.Goals as goal
 
 pub returns-then-not-allowed : goal.returns-then-not-allowed

@@ -1,5 +1,4 @@
 use borrow.Author.Tests.{eq-eqb, ne_eqb}
-use borrow.Author.Rules.{rules}
 use Rattle.records.proofs.judging.opens.Goals as goal
 
 pub returns-then-kind-eq5 : goal.returns-then-kind-eq5

@@ -1,4 +1,3 @@
-use borrow.Author.Rules.{rules}
 use Rattle.records.proofs.Passed.{stays}
 use Rattle.records.proofs.passing.pass_node.Goals as goal
 

@@ -1,10 +1,9 @@
-use borrow.Author.Rules.{rules}
 use Prim.Native.Nat.{◌-◌}
 use lib.ListN.{length}
-use mathlib.Core.Path.{◌≡◌, refl}
+use mathlib.Core.Path.{◌≡◌}
 use Rattle.format.specs.Arities.{recalled}
 use Rattle.records.specs.Passing.{Counted}
-use Rattle.records.proofs.Passed.{stays, PassesIn, passes-below, passes-again, counted-on, nearer}
+use Rattle.records.proofs.Passed.{PassesIn}
 use Rattle.records.proofs.passing.pass_nodes.Given as goal
 
 abbrev pub invariant-loop-x : goal.invariant-loop-x
