@@ -8,7 +8,6 @@ use lib.ListN.{length, get_or, drop, set}
 use native.Mathlib.Decide.{dec_lt}
 use Rattle.terms.specs.Node.{Expr}
 use Rattle.search.specs.Next as Next
-use Rattle.search.specs.Room.{nodes}
 use Rattle.words.specs.Flat.{flat, flat-size}
 use Rattle.words.specs.Word.{words_of}
 use Rattle.format.specs.declared.Record.TheVariants.{Clause, End}

@@ -1,0 +1,21 @@
+use native.Mathlib.Omega.{arith}
+use Rattle.storage.proofs.Loading.{goal-start, goal-loading}
+use Rattle.storage.proofs.load_goal.Goals as goal
+
+pub loop-at-init : goal.loop-at-init
+loop-at-init c = goal-start _ _ (λ i. omega (arith, c.shared_slice_known-1.given i)) c.requires.askable c.requires.in_bounds
+
+pub next_at-past-requires : goal.next_at-past-requires
+next_at-past-requires c = search goal-loading
+
+pub word_at-requires : goal.word_at-requires
+word_at-requires c = search goal-loading
+
+pub bounds-words-n : goal.bounds-words-n
+bounds-words-n c = search goal-loading
+
+pub loop-at-preserved : goal.loop-at-preserved
+loop-at-preserved c = search goal-loading
+
+pub returns : goal.returns
+returns c = search goal-loading
