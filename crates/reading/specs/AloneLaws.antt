@@ -1,12 +1,12 @@
 -- Pieces before a place that keep to the sizes hold no name or variable that is one too many.
 use Rattle.std.specs.Prelude.{ℕ, ◌<◌, ◌≡◌, refl, true, List, [], ◌∷◌, ◌++◌, length}
 use Rattle.std.proofs.Common.{sym as inv, ap, ap₂, ◌∙◌, true≢false, append_assoc, arith, length-append}
-use Rattle.grammar.specs.Token.{Token, name, closing, stop, Piece, token, blank, comment, spelling, spelt, bytes, Stands, tokens}
+use Rattle.grammar.specs.Token.{Token, name, closing, stop, Piece, token, spelling, spelt, bytes, Stands, tokens}
 use Rattle.grammar.specs.TokenLaws.{front-is}
 use Rattle.grammar.specs.Front.{front, front_of}
 use Rattle.grammar.specs.Syntax.{Rule}
 use Rattle.reading.specs.Part.{Done, none_yet, and_variable, and_name, filled, Part, formulas, inside, Mode, between, expects, named, complete, State, state, start}
-use Rattle.reading.specs.Reader.{nodes, variables, Judged, going, bad, judge_token}
+use Rattle.reading.specs.Reader.{variables, Judged, going, bad, judge_token}
 use Rattle.reading.specs.PrintLaws.{turn, printed, rules_then, before_next, behind_last, done_then}
 use Rattle.reading.specs.LimitLaws.{SmallState}
 use Rattle.reading.specs.RunLaws.{Runs, run_end, run_step}

@@ -3,7 +3,7 @@ use Rattle.std.specs.Prelude.{ℕ, suc, ◌≤◌, ◌≡◌, refl, ◌↔◌, L
 use Rattle.std.proofs.Common.{sym as inv, ap, ◌∙◌, arith, ltb-false, le-ltb}
 use Rattle.terms.specs.Cases.{cases}
 use Rattle.format.specs.Format.{encode_book}
-use Rattle.grammar.specs.Token.{bytes, tokens}
+use Rattle.grammar.specs.Token.{tokens}
 use Rattle.grammar.specs.Syntax.{Rule}
 use Rattle.grammar.specs.Names.{book}
 use Rattle.grammar.specs.Reading.{SmallRules, Sized, Writes}

@@ -38,9 +38,11 @@ settle-judge s t at h = same s.mode t h
 
 pub settle-runs : {s e : State} {ts : List Token} → Shut ts → Runs s ts e → Runs (settle s) ts e
 settle-runs {s} h (run_step {t = t} j r) = run_step (λ at. settle-judge s t at h ∙ j at) r
+settle-runs {s = s} h run_end = elim h [ ]
 
 pub unsettle_runs : (s : State) {e : State} {ts : List Token} → Shut ts → Runs (settle s) ts e → Runs s ts e
 unsettle_runs s h (run_step {t = t} j r) = run_step (λ at. inv (settle-judge s t at h) ∙ j at) r
+unsettle_runs s h run_end = elim h [ ]
 
 -- Pieces
 
