@@ -5,7 +5,6 @@ use Rattle.std.proofs.lemmas.List.{map-append}
 use Rattle.terms.specs.Node.{Expr}
 use Rattle.words.specs.Word.{Fit, Fits, node, nodes}
 use Rattle.words.specs.WordLaws.{each_append, fits_more}
-use Rattle.bounds.specs.Places.{places}
 use Rattle.bounds.specs.Thrift.{away, fresh, Thrifty, Kept}
 use Rattle.bounds.specs.Tally.{Tally, Noting, Taking, Took, Thrifts}
 use Rattle.bounds.specs.WeighLaws.{weigh-append}

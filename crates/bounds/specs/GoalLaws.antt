@@ -15,6 +15,7 @@ use Rattle.bounds.specs.WeighLaws.{gain, weigh-append, weigh-rename, weigh-most,
 
 pub flat_in : (v : ℕ) (g : Goal) → In v (flat g) → InAny v g
 flat_in v (f ∷ g) i = elim (in-append v f (flat g) i) [ inl j ↦ inl j | inr j ↦ inr (flat_in v g j) ]
+flat_in v [] i = elim i [ ]
 
 pub places-flat : (g : Goal) → places (flat g) ≡ places_all g
 places-flat [] = refl

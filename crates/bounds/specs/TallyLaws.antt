@@ -6,8 +6,8 @@ use Rattle.std.proofs.lemmas.List.{map-append}
 use Rattle.terms.specs.Node.{Expr}
 use Rattle.words.specs.Word.{kind_of, Plain, Fit, Fits, node, nodes}
 use Rattle.words.specs.WordLaws.{node-var, node-sym, each_append, each_make, fits_more}
-use Rattle.bounds.specs.Places.{weigh, places, times}
-use Rattle.bounds.specs.Thrift.{away, fresh}
+use Rattle.bounds.specs.Places.{weigh, times}
+use Rattle.bounds.specs.Thrift.{away}
 use Rattle.bounds.specs.Tally.{Tally, NotedOn, Took}
 use Rattle.bounds.specs.WeighLaws.{weigh-append}
 use Rattle.bounds.specs.ThriftLaws.{mark, mark-same, mark-other, away-in, away-out}

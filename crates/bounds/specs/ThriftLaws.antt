@@ -27,6 +27,7 @@ pub in-times : (x : ℕ) (e : Expr) → In x e → times x e ≡ 0 → ⊥
 in-times x (var v ∷ e) (inl p) z = omega (arith, z, mark-same x v p)
 in-times x (var v ∷ e) (inr i) z = in-times x e i (omega (arith, z))
 in-times x (sym s ∷ e) i z = in-times x e i z
+in-times x [] i z = elim i [ ]
 
 pub out-times : (x : ℕ) (e : Expr) → (In x e → ⊥) → times x e ≡ 0
 out-times x [] n = refl

@@ -48,6 +48,7 @@ module _ (σ : Subst) (a b : Expr) (general : MostGeneral σ a b) (x : ℕ) (out
     where
       apart : var x ≡ sym s → ⊥
       apart e = let z : ◌≡◌ {A = ℕ} 0 1 = ap (elim [ var v ↦ 0 | sym t ↦ 1 ]) e in omega (arith, z)
+  lone [] r γ e = elim r [ ]
 
   pub general-lone : (w : ℕ) × (σ x ≡ itself w)
   general-lone = let (γ, ok, more) = instance x in lone (σ x) (general.unifies.0 x) γ (inv (spared-same x) ∙ more x)
