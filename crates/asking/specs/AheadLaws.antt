@@ -1,24 +1,23 @@
 -- What the reader refuses is the first fault of the text.
-use Rattle.std.specs.Prelude.{ℕ, zero, suc, ◌+◌, ◌≤◌, ◌<◌, ◌≡◌, refl, true, false, ◌⊎◌, List, [], ◌∷◌, ◌++◌, length, take}
-use Rattle.std.proofs.Common.{sym as inv, ap, ◌∙◌, true≢false, inl, inr, append_assoc, arith, length-append, take_at}
+use Rattle.std.specs.Prelude.{ℕ, suc, ◌+◌, ◌≤◌, ◌<◌, ◌≡◌, refl, List, [], ◌∷◌, ◌++◌, length, take}
+use Rattle.std.proofs.Common.{sym as inv, ap, ◌∙◌, true≢false, inl, inr, arith, length-append, take_at}
 use Rattle.std.proofs.Math.Decide.{dec_lt}
 use Rattle.grammar.specs.Token.{Token, name, variable, opening, closing, comma, arrow, stop, Piece, token, spelling, spelt, bytes, Stands, tokens}
 use Rattle.grammar.specs.TokenLaws.{front-is, spelt-long, token-long}
-use Rattle.grammar.specs.Front.{front, broken, front_of}
+use Rattle.grammar.specs.Front.{front, front_of}
 use Rattle.grammar.specs.FrontLaws.{Half, shown}
 use Rattle.reading.specs.Part.{State, Taken, taken}
-use Rattle.reading.specs.Reader.{long}
 use Rattle.reading.specs.Stop.{SpacedTo, and_then}
 use Rattle.reading.specs.Viable.{bytes-append, first-stays}
 use Rattle.reading.specs.Refusal.{Begins, long-means}
 use Rattle.reading.specs.RefusalLaws.{snoc_bytes, snoc_spaced, no-half, same_left}
 use Rattle.reading.specs.AloneLaws.{found_front, shared-on, spaced-rest}
-use Rattle.asking.specs.Asking.{begin, step, Tally, none_yet, full, limit, refused}
+use Rattle.asking.specs.Asking.{begin, step, Tally, none_yet, limit, refused}
 use Rattle.asking.specs.Gone.{behind_pieces, tallied, Final, early, strange, misplaced, half_misplaced, half, long_name, too_many, Gone}
-use Rattle.asking.specs.Viable.{Viable, viable-here}
+use Rattle.asking.specs.Viable.{viable-here}
 use Rattle.asking.specs.Unexpected.{Unexpected, unexpected-one, viable-before}
 use Rattle.asking.specs.UnexpectedLaws.{behind-append, strange-means, misplaced-means, half-misplaced-means, half-means, early-means}
-use Rattle.asking.specs.Refusal.{StandsAt, Full, Fault, unexpected_byte, longest_name, out_of_range, nodes_passed, Ahead, First}
+use Rattle.asking.specs.Refusal.{StandsAt, unexpected_byte, longest_name, out_of_range, nodes_passed, Ahead, First}
 use Rattle.asking.specs.FaultLaws.{full-true, begins-limit, Coded, by_range, by_nodes, by_none, coded, Wordy, long_word, full_word, many_word, full-limit, many-limit, Faulty, of_byte, of_word, faulty, not_earlier}
 
 -- Two beginnings of one length have the same pieces

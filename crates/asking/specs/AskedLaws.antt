@@ -1,16 +1,16 @@
 -- The tokens of each goal are taken, and mean it.
-use Rattle.std.specs.Prelude.{ℕ, ◌≡◌, refl, Bool, true, false, List, [], ◌∷◌}
+use Rattle.std.specs.Prelude.{ℕ, ◌≡◌, refl, true, false, List, [], ◌∷◌}
 use Rattle.std.proofs.Common.{ap, ◌∙◌, arith}
 use Rattle.terms.specs.Cases.{cases}
 use Rattle.grammar.specs.Token.{Token, name, variable, opening, closing, comma, arrow, stop}
-use Rattle.grammar.specs.Syntax.{Terms, none, variable_then, name_then, Formula, Rule, first, later, before, arguments_then}
+use Rattle.grammar.specs.Syntax.{Terms, none, variable_then, name_then, Formula, first, later, before, arguments_then}
 use Rattle.grammar.specs.Query.{more_then, End, open_end, full_stop, ends_with, asked}
 use Rattle.reading.specs.Part.{Done, none_yet, and_variable, and_name, Part, formulas, inside, Mode, between, expects, named, complete, State, state}
 use Rattle.reading.specs.Part.{terms_of, put, rule_of, Taken, taken, wrong, is_opening, settle}
 use Rattle.reading.specs.PrintLaws.{turn}
 use Rattle.reading.specs.CompleteLaws.{opened}
 use Rattle.reading.specs.Stop.{and_then}
-use Rattle.asking.specs.Asking.{asker, begin, step, Meant, goal, meant_whole, meaning}
+use Rattle.asking.specs.Asking.{asker, begin, step, Meant, meaning}
 use Rattle.asking.specs.MeaningLaws.{goes, Meets}
 
 -- A blank changes nothing but that no bracket may follow

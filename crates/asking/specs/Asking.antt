@@ -2,7 +2,7 @@
 -- docs/DECISIONS.md). A query is read as the body of a rule whose head is there already.
 use Rattle.std.specs.Prelude.{ℕ, zero, suc, ◌+◌, Bool, List, [], ◌∷◌, length, leb, ltb}
 use Rattle.terms.specs.When.{◌⇒◌∣◌}
-use Rattle.grammar.specs.Token.{Token, name, variable, opening, closing, comma, arrow, stop, Piece, token, blank, comment, spelt}
+use Rattle.grammar.specs.Token.{Token, name, variable, opening, closing, comma, arrow, stop, token, blank, comment, spelt}
 use Rattle.grammar.specs.Front.{Front, front, broken, unexpected, front_of}
 use Rattle.grammar.specs.Syntax.{none, Formula, Rule}
 use Rattle.reading.specs.Part.{Part, formulas, inside, Mode, between, expects, named, complete, State, state, formula_of, put, rule_of, Taken, taken, wrong, next, settle}

@@ -1,14 +1,13 @@
 -- The texts that are read are exactly the grammar's within the sizes; each other text is refused in one way, at one place.
 use Rattle.std.specs.Prelude.{ℕ, suc, ◌≤◌, ◌<◌, ◌≡◌, refl, ◌↔◌, List, length, ltb, eqb}
 use Rattle.std.proofs.Common.{sym as inv, ap, ◌∙◌, inl, inr, arith, ltb-true, ltb-false, eqb-true}
-use Rattle.terms.specs.When.{◌⇒◌∣◌}
 use Rattle.terms.specs.Cases.{cases}
 use Rattle.grammar.specs.Syntax.{Formula}
 use Rattle.grammar.specs.Query.{asks-one}
 use Rattle.asking.specs.Asking.{begin, none_yet, Outcome, read, refused, walk, asking}
 use Rattle.asking.specs.Gone.{Gone}
 use Rattle.asking.specs.GoneLaws.{gone}
-use Rattle.asking.specs.Refusal.{Fault, unexpected_byte, longest_name, out_of_range, nodes_passed, rank, Ahead, First, Refusal, long_text, first_fault}
+use Rattle.asking.specs.Refusal.{Fault, unexpected_byte, longest_name, out_of_range, nodes_passed, rank, Ahead, Refusal, long_text, first_fault}
 use Rattle.asking.specs.FaultLaws.{no_fault, Accepted, read-accepted}
 use Rattle.asking.specs.AheadLaws.{refused-first}
 

@@ -1,31 +1,25 @@
 -- What is read is a query of the grammar within the sizes, and such a text has no fault.
-use Rattle.std.specs.Prelude.{ℕ, zero, suc, ◌+◌, ◌≤◌, ◌<◌, ◌≡◌, refl, Bool, true, false, ◌⊎◌, ◌↔◌, List, [], ◌∷◌, ◌++◌, length, take, leb, ltb, eqb}
-use Rattle.std.proofs.Common.{sym as inv, ap, ◌∙◌, true≢false, inl, inr, append-nil, arith, length-append, take_at, leb-true, leb-false, le-leb, ltb-true, ltb-false, lt-ltb, le-ltb, eqb-true}
-use Rattle.std.proofs.Math.Decide.{dec_lt}
+use Rattle.std.specs.Prelude.{ℕ, ◌+◌, ◌≤◌, ◌<◌, ◌≡◌, refl, true, false, List, [], ◌∷◌, ◌++◌, length, leb}
+use Rattle.std.proofs.Common.{sym as inv, ap, ◌∙◌, true≢false, append-nil, arith, length-append, leb-true, le-leb}
 use Rattle.terms.specs.Cases.{cases}
-use Rattle.grammar.specs.Token.{Token, name, variable, opening, closing, comma, arrow, stop, Piece, token, blank, comment, spelling, spelt, bytes, Fits, Stands, Spaced, tokens}
-use Rattle.grammar.specs.TokenLaws.{Stays, fits-stays, token-long}
-use Rattle.grammar.specs.Front.{front, broken, front_of}
-use Rattle.grammar.specs.FrontLaws.{Half, shown}
+use Rattle.grammar.specs.Token.{Token, name, variable, opening, closing, comma, arrow, stop, Piece, token, spelling, bytes, Spaced, tokens}
+use Rattle.grammar.specs.TokenLaws.{fits-stays, token-long}
 use Rattle.grammar.specs.Syntax.{Formula}
-use Rattle.grammar.specs.Query.{Asks, SizedQuery, asks-one}
-use Rattle.reading.specs.Part.{State, taken}
+use Rattle.grammar.specs.Query.{Asks, SizedQuery}
+use Rattle.reading.specs.Part.{State}
 use Rattle.reading.specs.Reader.{long}
 use Rattle.reading.specs.Stop.{SpacedTo}
-use Rattle.reading.specs.Viable.{bytes-append, tokens_append}
+use Rattle.reading.specs.Viable.{tokens_append}
 use Rattle.reading.specs.UnexpectedLaws.{end-spaced}
-use Rattle.reading.specs.Refusal.{Begins, long-means}
-use Rattle.reading.specs.RefusalLaws.{snoc_bytes, snoc_spaced, no-half, same_left}
+use Rattle.reading.specs.Refusal.{Begins}
 use Rattle.reading.specs.AloneLaws.{shared-on}
-use Rattle.asking.specs.Asking.{begin, step, goal, meaning, Tally, none_yet, counted, full, code, limit, Outcome, read, refused, walk, asking}
+use Rattle.asking.specs.Asking.{begin, meaning, Tally, none_yet, counted, full, code, limit, read}
 use Rattle.asking.specs.MeaningLaws.{Meets, meets-asked}
 use Rattle.asking.specs.WithinLaws.{Within, within-sized, sized-within}
-use Rattle.asking.specs.Gone.{behind_pieces, tallied, Final, finished, early, strange, misplaced, half_misplaced, half, long_name, too_many, Gone}
-use Rattle.asking.specs.GoneLaws.{gone}
-use Rattle.asking.specs.Viable.{Viable, pieces-meet, viable-here}
-use Rattle.asking.specs.Unexpected.{Unexpected, viable-take, unexpected-one, viable-before, not-asked}
-use Rattle.asking.specs.UnexpectedLaws.{behind-append, strange-means, misplaced-means, half-misplaced-means, half-means, early-means}
-use Rattle.asking.specs.Refusal.{StandsAt, Full, Fault, unexpected_byte, longest_name, out_of_range, nodes_passed, rank, Ahead, First, Refusal, long_text, first_fault}
+use Rattle.asking.specs.Gone.{tallied, Final, finished, Gone}
+use Rattle.asking.specs.Viable.{pieces-meet}
+use Rattle.asking.specs.Unexpected.{Unexpected, not-asked}
+use Rattle.asking.specs.Refusal.{StandsAt, Full, Fault, unexpected_byte, longest_name, out_of_range, nodes_passed}
 
 -- Tokens that keep to the sizes have no fault
 

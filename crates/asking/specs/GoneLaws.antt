@@ -9,9 +9,9 @@ use Rattle.grammar.specs.FrontLaws.{Bracketed, Shown, shown}
 use Rattle.reading.specs.Part.{State, Taken, taken, wrong, next, settle}
 use Rattle.reading.specs.Reader.{long, judge_taken}
 use Rattle.reading.specs.SoundLaws.{Settled, settled-settled, token-shut}
-use Rattle.reading.specs.Stop.{SpacedTo, Begun}
+use Rattle.reading.specs.Stop.{Begun}
 use Rattle.reading.specs.StopLaws.{gap_spaced, begins-nothing}
-use Rattle.asking.specs.Asking.{sealed, seal, step, Meant, goal, unfinished, meaning, Tally, counted, limit, Outcome, read, refused, breaks, ended, go_on, from_front, walk}
+use Rattle.asking.specs.Asking.{seal, step, Meant, goal, unfinished, meaning, Tally, counted, limit, Outcome, breaks, ended, go_on, from_front, walk}
 use Rattle.asking.specs.WithinLaws.{Within}
 use Rattle.asking.specs.Gone.{behind_piece, tallied, Final, finished, early, strange, misplaced, half_misplaced, half, long_name, too_many, Gone}
 

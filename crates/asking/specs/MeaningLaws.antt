@@ -1,17 +1,16 @@
 -- What the tokens that are taken mean: they are those of a goal, and the tokens of each goal are taken.
-use Rattle.std.specs.Prelude.{ℕ, ◌≡◌, refl, false, List, [], ◌∷◌, ◌++◌}
-use Rattle.std.proofs.Common.{sym as inv, ap, ◌∙◌, true≢false, append-nil, arith}
+use Rattle.std.specs.Prelude.{ℕ, ◌≡◌, refl, List, [], ◌∷◌, ◌++◌}
+use Rattle.std.proofs.Common.{sym as inv, ap, ◌∙◌, append-nil, arith}
 use Rattle.terms.specs.Cases.{cases}
 use Rattle.grammar.specs.Token.{Token, name, variable, opening, closing, comma, arrow, stop}
-use Rattle.grammar.specs.Syntax.{Terms, none, variable_then, name_then, Formula, Rule, first, later, before, arguments_then, formula_then, body_then}
-use Rattle.grammar.specs.Query.{more_then, End, open_end, full_stop, ends_with, asked}
-use Rattle.reading.specs.Part.{Done, none_yet, and_variable, and_name, Part, formulas, inside, Mode, between, expects, named, complete, State, state}
-use Rattle.reading.specs.Part.{terms_of, put, rule_of, Taken, taken, wrong, is_opening, variable_in, comma_may, arrow_may, behind, next, settle}
-use Rattle.reading.specs.PrintLaws.{turn, formulas_then, rule_then, printed, Well, Kept, kept, settle-printed}
-use Rattle.reading.specs.CompleteLaws.{opened}
+use Rattle.grammar.specs.Syntax.{Terms, none, variable_then, name_then, Formula, Rule, first, arguments_then, formula_then, body_then}
+use Rattle.grammar.specs.Query.{more_then, End, open_end, full_stop, asked}
+use Rattle.reading.specs.Part.{none_yet, and_variable, and_name, Part, formulas, inside, Mode, between, expects, named, complete, State, state}
+use Rattle.reading.specs.Part.{terms_of, put, rule_of, Taken, taken, wrong, variable_in, comma_may, arrow_may, behind, next, settle}
+use Rattle.reading.specs.PrintLaws.{formulas_then, rule_then, printed, Well, Kept, kept, settle-printed}
 use Rattle.reading.specs.Stop.{and_then}
 use Rattle.reading.specs.Whole.{Filled, put-filled}
-use Rattle.asking.specs.Asking.{asker, begin, sealed, seal, step, Meant, goal, unfinished, meant_whole, meant, meaning}
+use Rattle.asking.specs.Asking.{asker, begin, sealed, seal, step, goal, unfinished, meant_whole, meant, meaning}
 
 -- tokens one behind the other, whatever their sizes
 abbrev pub goes : State → List Token → Taken

@@ -4,7 +4,7 @@ use Rattle.terms.specs.When.{◌⇒◌∣◌}
 use Rattle.grammar.specs.Token.{Token, name, Piece, spelling, bytes, Stands, tokens}
 use Rattle.reading.specs.Stop.{SpacedTo}
 use Rattle.reading.specs.Refusal.{Begins}
-use Rattle.asking.specs.Asking.{Tally, none_yet}
+use Rattle.asking.specs.Asking.{none_yet}
 use Rattle.asking.specs.Gone.{tallied}
 use Rattle.asking.specs.Unexpected.{Unexpected}
 

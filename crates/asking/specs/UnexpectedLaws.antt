@@ -1,5 +1,5 @@
 -- Where the reader says 41, the byte is unexpected.
-use Rattle.std.specs.Prelude.{ℕ, suc, ◌+◌, ◌≡◌, refl, false, List, [], ◌∷◌, ◌++◌, length, take}
+use Rattle.std.specs.Prelude.{ℕ, suc, ◌+◌, ◌≡◌, refl, List, [], ◌∷◌, ◌++◌, length, take}
 use Rattle.std.proofs.Common.{sym as inv, ap, ◌∙◌, append_assoc, append-nil, arith, length-append, take_at}
 use Rattle.grammar.specs.Token.{Token, Piece, token, blank, comment, bytes, Spaced, tokens}
 use Rattle.grammar.specs.TokenLaws.{fits-stays, front-is, pieces_are}
@@ -7,14 +7,14 @@ use Rattle.grammar.specs.Front.{front, broken, unexpected, Class, nothing, class
 use Rattle.grammar.specs.FrontLaws.{shown}
 use Rattle.grammar.specs.Syntax.{Formula}
 use Rattle.grammar.specs.Query.{Asks}
-use Rattle.reading.specs.Part.{State, Taken, taken, wrong, is_opening, next, settle}
+use Rattle.reading.specs.Part.{State, Taken, taken, wrong, next, settle}
 use Rattle.reading.specs.RunLaws.{Unopened, unopened, line_end_shut}
 use Rattle.reading.specs.Stop as Stop
 use Rattle.reading.specs.Stop.{SpacedTo, and_then}
 use Rattle.reading.specs.Unexpected.{parted}
 use Rattle.reading.specs.UnexpectedLaws.{clash, alike, half-alike, two_bytes, end-spaced}
 use Rattle.asking.specs.Asking.{begin, seal, step, goal, unfinished, meaning}
-use Rattle.asking.specs.MeaningLaws.{goes, Meets}
+use Rattle.asking.specs.MeaningLaws.{Meets}
 use Rattle.asking.specs.AskedLaws.{settle-meaning, settle_step, taken_of, asked-meets}
 use Rattle.asking.specs.Gone.{behind_piece, behind_pieces}
 use Rattle.asking.specs.Viable.{Viable, viable-here, viable-half}

@@ -1,6 +1,6 @@
 -- The beginnings of queries: what the reader has gone through begins some query's text.
-use Rattle.std.specs.Prelude.{ℕ, ◌≡◌, refl, true, false, List, [], ◌∷◌, ◌++◌}
-use Rattle.std.proofs.Common.{sym as inv, ap, ◌∙◌, true≢false, append_assoc, arith}
+use Rattle.std.specs.Prelude.{ℕ, ◌≡◌, refl, false, List, [], ◌∷◌, ◌++◌}
+use Rattle.std.proofs.Common.{sym as inv, ◌∙◌, true≢false, append_assoc, arith}
 use Rattle.grammar.specs.Byte.{small, capital, digit, goes_on, is_blank, is_percent, is_bracket}
 use Rattle.grammar.specs.Token.{Token, name, variable, opening, closing, comma, arrow, stop, Piece, token, blank, comment, spelt, bytes, after_stop, Fits, Spaced, tokens}
 use Rattle.grammar.specs.FrontLaws.{Half}
@@ -10,10 +10,10 @@ use Rattle.reading.specs.Part.{none_yet, and_variable, and_name, Part, formulas,
 use Rattle.reading.specs.Stop.{SpacedTo, and_then}
 use Rattle.reading.specs.Whole.{Filled, a}
 use Rattle.reading.specs.Viable.{bytes-append, tokens_append, respaced, line_behind, same-behind, whole_pieces, tokens-whole}
-use Rattle.asking.specs.Asking.{begin, step, goal, meaning}
-use Rattle.asking.specs.MeaningLaws.{goes, Meets, Fine, FineTaken, step-fine, settle-fine, meets-asked}
+use Rattle.asking.specs.Asking.{begin, step}
+use Rattle.asking.specs.MeaningLaws.{Meets, Fine, step-fine, settle-fine, meets-asked}
 use Rattle.asking.specs.AskedLaws.{meets-step, settle-meets}
-use Rattle.asking.specs.Gone.{behind_piece, behind_pieces}
+use Rattle.asking.specs.Gone.{behind_pieces}
 
 -- some query's text, of whatever sizes, begins with these bytes
 pub record Viable (s : List ℕ) : Type 0 where

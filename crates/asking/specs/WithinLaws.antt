@@ -1,9 +1,9 @@
 -- Tokens of which none is one too many, and no name too long, are those of a goal within the sizes.
-use Rattle.std.specs.Prelude.{ℕ, zero, suc, ◌+◌, ◌≤◌, ◌<◌, ◌≡◌, refl, Bool, true, false, List, [], ◌∷◌, length, leb}
+use Rattle.std.specs.Prelude.{ℕ, suc, ◌+◌, ◌≤◌, ◌<◌, ◌≡◌, refl, Bool, true, false, List, [], ◌∷◌, length, leb}
 use Rattle.std.proofs.Common.{arith, leb-false}
 use Rattle.std.proofs.lemmas.Bool.{lt-leb}
 use Rattle.terms.specs.When.{◌⇒◌∣◌}
-use Rattle.grammar.specs.Token.{Token, name, variable, opening, closing, comma, arrow, stop}
+use Rattle.grammar.specs.Token.{Token, name, variable}
 use Rattle.grammar.specs.Syntax.{Terms, none, variable_then, name_then, Formula, Turn, first, later, before, arguments_then, formula_then}
 use Rattle.grammar.specs.Names.{count, formulas_spots}
 use Rattle.grammar.specs.Reading.{Small, SmallFormula, SmallFormulas}
