@@ -9,8 +9,7 @@ use Rattle.positions.specs.Ranking.{Settled}
 use Rattle.positions.specs.Tables.{ends, ups, picks, lefts, rights, ranks, firsts, ClosedIn, TrialIn, CheckedIn, Search}
 use Rattle.unifier.proofs.Trials.{searching, closed-flat, trial-flat, checked}
 use borrow.Author.Rules.{rules}
-use Rattle.unifier.proofs.acyclic.Statement.{statement}
-use Rattle.unifier.proofs.acyclic.Tie as tie
+use Rattle.unifier.proofs.acyclic.Goals as goal
 
 -- x is the storage with the ways to the roots made short, y and z after the noughts
 module _ (w rows x y z : List ℕ) (t : Flat (ups w rows) (ups w x)) (o : Only (UP ∷ []) rows x) (a : Only (RANK ∷ []) x y) (e : Only (RIGHT ∷ []) y z) where
@@ -36,13 +35,17 @@ module _ (w rows x y z : List ℕ) (t : Flat (ups w rows) (ups w x)) (o : Only (
         (checked w (ends w z) (ups w z) (picks w z) (ranks w q) (firsts z) m j r s
         (rw (noughts.kept END (length w) refl, noughts.kept UP (length w) refl, noughts.kept PICK (length w) refl, noughts.kept FIRST ROWS refl, o.kept END (length w) refl, o.kept PICK (length w) refl, o.kept FIRST ROWS refl) (trial-flat t c)))
 
-pub acyclic_spec : {M : Type 1} → statement M
-acyclic_spec =
-    tie.close
-    (tie.spec
-    (λ c κs. (search rules, c.before.before.before.requires.1.grouped.small, c.before.before.before.requires.1.grouped.down))
-    (λ c κs. (search rules, c.before.before.before.before.before.before.before.requires.1.grouped.small, search rules))
-    (λ c κs. (search rules, c.before.before.before.before.before.before.before.before.before.before.before.requires.1.grouped.small, search rules))
-    (λ c κs. (search rules, search-in _ _ _ _ _ c.before.before.before.before.before.before.before.before.before.before.before.flatten.ensures.0 c.before.before.before.before.before.before.before.before.before.before.before.flatten.ensures.1 c.before.before.before.before.before.before.before.clear.ensures.1 c.before.before.before.clear2.ensures.1 c.before.before.before.before.before.before.before.before.before.before.before.before.before.before.before.requires.1 c.before.before.before.before.before.before.before.clear.ensures.0 c.before.before.before.clear2.ensures.0))
-    (λ c. search rules)
-    (λ c. (checked-in _ _ _ _ _ c.before.before.before.before.before.before.before.before.before.before.before.before.before.before.flatten.ensures.0 c.before.before.before.before.before.before.before.before.before.before.before.before.before.before.flatten.ensures.1 c.before.before.before.before.before.before.before.before.before.before.clear.ensures.1 c.before.before.before.before.before.before.clear2.ensures.1 _ c.before.before.settle.result c.before.before.settle.ensures.1 c.before.before.settle.ensures.0, changes _ _ _ _ _ c.before.before.before.before.before.before.before.before.before.before.before.before.before.before.flatten.ensures.0 c.before.before.before.before.before.before.before.before.before.before.before.before.before.before.flatten.ensures.1 c.before.before.before.before.before.before.before.before.before.before.clear.ensures.1 c.before.before.before.before.before.before.clear2.ensures.1 _ c.before.before.settle.result c.before.before.settle.ensures.1 c.before.before.settle.ensures.0)))
+pub flatten-requires : goal.flatten-requires
+flatten-requires c = (search rules, c.requires.1.grouped.small, c.requires.1.grouped.down)
+
+pub clear-requires : goal.clear-requires
+clear-requires c = (search rules, c.requires.1.grouped.small, search rules)
+
+pub clear-requires-2 : goal.clear-requires-2
+clear-requires-2 c = (search rules, c.requires.1.grouped.small, search rules)
+
+pub settle-requires : goal.settle-requires
+settle-requires c = (search rules, search-in _ _ _ _ _ c.flatten.ensures.0 c.flatten.ensures.1 c.clear.ensures.1 c.clear-2.ensures.1 c.requires.1 c.clear.ensures.0 c.clear-2.ensures.0)
+
+pub returns : goal.returns
+returns c = (checked-in _ _ _ _ _ c.flatten.ensures.0 c.flatten.ensures.1 c.clear.ensures.1 c.clear-2.ensures.1 _ c.settle.result c.settle.ensures.1 c.settle.ensures.0, changes _ _ _ _ _ c.flatten.ensures.0 c.flatten.ensures.1 c.clear.ensures.1 c.clear-2.ensures.1 _ c.settle.result c.settle.ensures.1 c.settle.ensures.0)
