@@ -1,11 +1,11 @@
 -- A part of a list that is put back, and the parts beside it.
-use Prim.Native.Nat.{ℕ, zero, suc, ◌+◌, ◌-◌, ◌≤◌, ◌<◌}
-use mathlib.Core.Path.{◌≡◌, refl, sym as inv, ap, subst, ◌∙◌}
+use Prim.Native.Nat.{ℕ, zero, suc, ◌+◌, ◌-◌, ◌≤◌}
+use mathlib.Core.Path.{◌≡◌, refl, sym as inv, ap, ◌∙◌}
 use mathlib.Core.List.{List, [], ◌∷◌, ◌++◌}
 use native.Mathlib.Omega.{arith}
-use lib.ListN.{length, take, drop, length-drop, length-append}
+use lib.ListN.{length, take, drop, length-drop}
 use lib.Seq.{length-take-le}
-use borrow.Rule.Slice.PartMut.{mid_of, put_mid, same_len_mid, drop_put}
+use borrow.Rule.Slice.PartMut.{put_mid, same_len_mid, drop_put}
 use Rattle.symbols.specs.Sections.{part, Apart, before, behind}
 
 -- the end of a list is not looked at

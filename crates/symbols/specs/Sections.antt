@@ -1,5 +1,5 @@
 -- Tables of names in parts of the same storage.
-use Rattle.std.specs.Prelude.{ℕ, ◌+◌, ◌≤◌, ◌<◌, ◌≡◌, List, length, take, drop, ltb}
+use Rattle.std.specs.Prelude.{ℕ, ◌+◌, ◌≤◌, ◌≡◌, List, length, take, drop, ltb}
 use Rattle.terms.specs.When.{◌⇒◌∣◌}
 use Rattle.grammar.specs.Names.{place, grow}
 use Rattle.nametable.specs.Table.{Table}
