@@ -2,14 +2,13 @@
 use Prim.Native.Nat.{ℕ, zero, suc, ◌+◌, ◌-◌, ◌≤◌, ◌<◌}
 use mathlib.Core.Path.{◌≡◌, refl, sym as inv, ap, ap₂, ◌∙◌, subst}
 use mathlib.Core.Bool.{Bool, true, false, not}
-use mathlib.Core.List.{List, [], ◌∷◌}
+use mathlib.Core.List.{List}
 use native.Mathlib.Omega.{arith}
 use borrow.Author.Tests.{not-true, not-false, lt-ltb, le-ltb}
 use lib.ListN.{length, get_or}
-use lib.Dec.{ltb}
 use Rattle.nametable.specs.Table.{word}
 use Rattle.namelist.specs.Bytes.{is_name, length_at, rank_at, past, entry_good, good_from}
-use Rattle.namelist.specs.Tests.{EntryGood, good-means, good_is, good-not}
+use Rattle.namelist.specs.Tests.{good-means, good_is, good-not}
 use Rattle.terms.specs.Cases.{cases}
 
 module _ (s : List ℕ) (at floor : ℕ) where

@@ -1,5 +1,5 @@
 -- Along the entries of a list.
-use Prim.Native.Nat.{ℕ, zero, suc, ◌+◌, ◌-◌, ◌≤◌, ◌<◌}
+use Prim.Native.Nat.{ℕ, suc, ◌+◌, ◌≤◌, ◌<◌}
 use mathlib.Core.Path.{◌≡◌, refl, sym as inv, ap, ap₂, ◌∙◌, subst}
 use mathlib.Core.Bool.{Bool, true, false, not, ◌&&◌}
 use mathlib.Core.List.{List, [], ◌∷◌, head-eq_of_cons-eq, tail-eq_of_cons-eq}
@@ -15,8 +15,8 @@ use Rattle.grammar.specs.Names.{Sort, Constant, Compound, Predicate, kind, is_so
 use Rattle.grammar.specs.NameLaws.{same_true}
 use Rattle.nametable.specs.Table.{word}
 use Rattle.namelist.specs.List.{Entry, naming}
-use Rattle.namelist.specs.Bytes.{length_at, name_at, entry_at, past, good_from, entries_of, shares, shares_at, unshared, all_unshared, is_list}
-use Rattle.namelist.specs.ListLaws.{Stands, Entered, entered, stands-end, stands-more, NamesIt}
+use Rattle.namelist.specs.Bytes.{length_at, name_at, past, good_from, entries_of, shares, shares_at, unshared, all_unshared, is_list}
+use Rattle.namelist.specs.ListLaws.{Stands, entered, stands-end, stands-more, NamesIt}
 use Rattle.namelist.specs.Meaning.{entry-is, good-read}
 
 -- Two entries
@@ -290,14 +290,14 @@ pub ruleset finding-said = (finding_hit, finding-end)
 -- Both checks
 
 module _ (s : List ℕ) (t : Bool) (said : t ≡ good_from (suc (length s)) s 0 0) where
-  pub list-none : not t ≡ true → false ≡ is_list s
+  pub list-none : t ≡ false → false ≡ is_list s
   unfolding is_list
-  list-none f = inv (rw (inv said ∙ not-true t f))
+  list-none f = inv (rw (inv said ∙ f))
 
-  module _ (bytes : Bytes s) (good : not t ≡ false) where
+  module _ (bytes : Bytes s) (good : t ≡ true) where
     pub list-made : (l : List Entry) × Stands s 0 l
-    list-made = (entries_of s, (good-read s bytes (suc (length s)) 0 0 (omega arith) (inv said ∙ not-false t good)).stands)
+    list-made = (entries_of s, (good-read s bytes (suc (length s)) 0 0 (omega arith) (inv said ∙ good)).stands)
 
     pub list-said : (r : Bool) → ((l : List Entry) → Stands s 0 l → r ≡ all_unshared l) → r ≡ is_list s
     unfolding is_list
-    list-said r h = h (entries_of s) (good-read s bytes (suc (length s)) 0 0 (omega arith) (inv said ∙ not-false t good)).stands ∙ inv (rw (inv said ∙ not-false t good))
+    list-said r h = h (entries_of s) (good-read s bytes (suc (length s)) 0 0 (omega arith) (inv said ∙ good)).stands ∙ inv (rw (inv said ∙ good))

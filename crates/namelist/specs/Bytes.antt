@@ -1,5 +1,5 @@
 -- Whether bytes are a name list, entry by entry, and of which entries. What it means: Meaning.
-use Rattle.std.specs.Prelude.{ℕ, zero, suc, ◌+◌, ◌*◌, Bool, true, false, ◌&&◌, List, [], ◌∷◌, length, get_or, take, drop, eqb, leb, ltb}
+use Rattle.std.specs.Prelude.{ℕ, zero, suc, ◌+◌, ◌*◌, Bool, true, false, ◌&&◌, List, [], ◌∷◌, length, get_or, take, drop, eqb, ltb}
 use Rattle.terms.specs.When.{◌⇒◌∣◌}
 use Rattle.format.specs.Reading.{number_at}
 use Rattle.grammar.specs.Byte.{small, goes_on}

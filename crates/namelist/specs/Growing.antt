@@ -1,5 +1,5 @@
 -- Names by first appearance: those that come in keep a table good (document 02, C-13).
-use Rattle.std.specs.Prelude.{ℕ, ◌≡◌, refl, true, false, List, [], ◌∷◌, ◌++◌}
+use Rattle.std.specs.Prelude.{ℕ, ◌≡◌, refl, false, List, [], ◌∷◌, ◌++◌}
 use Rattle.std.proofs.Common.{sym as inv, true≢false}
 use Rattle.terms.specs.Cases.{cases}
 use Rattle.grammar.specs.Names.{Sort, Spot, variable_spot, symbol_spot, same_name, within, grow, is_sort, names_after}

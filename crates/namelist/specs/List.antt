@@ -1,5 +1,5 @@
 -- A name list: "record kind, number, length in one byte, name; entries rise by kind, then number" (document 02, C-13).
-use Rattle.std.specs.Prelude.{ℕ, ◌/◌, ◌%◌, ◌≤◌, ◌<◌, ◌≡◌, ◌⊎◌, ◌&&◌, List, [], ◌∷◌, ◌++◌, length, eqb}
+use Rattle.std.specs.Prelude.{ℕ, ◌/◌, ◌%◌, ◌<◌, ◌≡◌, ◌⊎◌, ◌&&◌, List, [], ◌∷◌, ◌++◌, length, eqb}
 use Rattle.terms.specs.When.{◌⇒◌∣◌}
 use Rattle.grammar.specs.Names.{Sort, kind, is_sort}
 use Rattle.printing.specs.Named.{Naming}

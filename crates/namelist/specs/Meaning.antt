@@ -1,11 +1,11 @@
 -- Bytes are a name list just if they pass the test entry by entry, and then of those entries alone.
 use Prim.Native.Nat.{ℕ, zero, suc, ◌+◌, ◌*◌, ◌/◌, ◌%◌, ◌≤◌, ◌<◌}
-use Rattle.std.specs.Prelude.{◌≡◌, ◌⊎◌, Bool, false, ◌&&◌, eqb, ltb, length, get_or, take, drop}
+use Rattle.std.specs.Prelude.{◌≡◌, false, ◌&&◌, eqb, ltb, length, get_or, drop}
 use Rattle.std.proofs.Math.Path.{refl, ap₂}
-use Rattle.std.proofs.Common.{sym as inv, ap, ◌∙◌, subst, inl, inr, arith, length-append, length-drop, take-append-drop, drop-cons, drop-drop, length-take-le}
+use Rattle.std.proofs.Common.{sym as inv, ap, ◌∙◌, subst, arith, length-append, length-drop, take-append-drop, drop-cons, drop-drop, length-take-le}
 use Rattle.std.proofs.Math.Bool.{true}
 use mathlib.Core.List.{List, [], ◌∷◌, ◌++◌}
-use borrow.Author.Tests.{ltb-true, ltb-false, lt-ltb, le-ltb, eqb-true, eqb-false}
+use borrow.Author.Tests.{ltb-false, lt-ltb, le-ltb, eqb-true, eqb-false}
 use Rattle.std.proofs.Math.ListN.{drop_of_length-le}
 use Rattle.terms.specs.Cases.{cases}
 use Rattle.terms.specs.When.{◌⇒◌∣◌}
@@ -17,7 +17,7 @@ use Rattle.grammar.specs.GrowLaws.{is-sort_self}
 use Rattle.printing.specs.OrderLaws.{same-sort}
 use Rattle.namelist.specs.List.{Entry, listed, Before, ToEach, Along, Proper, Apart, IsList}
 use Rattle.namelist.specs.Bytes.{is_name, sort_of, length_at, name_at, entry_at, rank, rank_at, past, entry_good, good_from, entries_from, entries_of, shares, unshared, all_unshared, is_list}
-use Rattle.namelist.specs.ListLaws.{Stands, Entered, entered, stands-end, stands-more}
+use Rattle.namelist.specs.ListLaws.{Stands, entered, stands-more}
 use Rattle.namelist.specs.Tests.{no_test, failed, unfailed, passed, behind, name-means, name_is, EntryGood, good-means, good_is, rank_of, Above, above_lower, before_above, above_before}
 
 -- What passes is a list

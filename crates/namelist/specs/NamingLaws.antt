@@ -1,17 +1,16 @@
 -- Which symbols a list names, and that it names them by names of C-13's form, one to one in each sort.
-use Rattle.std.specs.Prelude.{ℕ, suc, ◌≤◌, ◌<◌, ◌≡◌, refl, ◌⊎◌, Bool, true, false, ◌&&◌, List, [], ◌∷◌, ◌++◌, eqb, length}
-use Rattle.std.proofs.Common.{sym as inv, ap, ap₂, ◌∙◌, subst, inl, inr, arith, eqb-true, eq-eqb}
+use Rattle.std.specs.Prelude.{ℕ, ◌≡◌, refl, Bool, true, false, ◌&&◌, List, [], ◌∷◌, eqb}
+use Rattle.std.proofs.Common.{sym as inv, ap, ap₂, ◌∙◌, subst, inl, inr, eqb-true, eq-eqb}
 use Rattle.terms.specs.Cases.{cases}
 use Rattle.terms.specs.When.{◌⇒◌∣◌}
 use Rattle.terms.specs.Node.{constant, compound, predicate, Node, var, sym, Expr}
 use Rattle.grammar.specs.Names.{Sort, Constant, Compound, Predicate, symbol_for, is_sort}
 use Rattle.grammar.specs.GrowLaws.{is-sort_self}
-use Rattle.printing.specs.Named.{Naming}
 use Rattle.printing.specs.Renumbered.{Uses}
 use Rattle.printing.specs.UseLaws.{Distinct}
-use Rattle.printing.specs.OrderLaws.{same-sort, symbol-same}
+use Rattle.printing.specs.OrderLaws.{same-sort}
 use Rattle.printing.specs.SizeLaws.{Fit, AllFit}
-use Rattle.namelist.specs.List.{Entry, Before, ToEach, Along, Proper, Apart, In, naming}
+use Rattle.namelist.specs.List.{Entry, ToEach, Along, Proper, Apart, In, naming}
 use Rattle.namelist.specs.Tests.{no_test, passed, behind}
 
 abbrev pub entry : Sort → ℕ → List ℕ → Entry
@@ -60,7 +59,8 @@ fit-some (b ∷ w) f = refl
 pub named-means : (l : List Entry) (k : Sort) (n : ℕ) → some (naming l k n) ≡ true → In (entry k n (naming l k n)) l
 named-means [] k n e = no_test e
 named-means (x ∷ l) k n e =
-    cases (is_sort k x.sort && eqb n x.number) (λ t. rw t (let p = matched x k n t in inl (same_entry x k n p.0 p.1))) (λ t. rw t (inr (named-means l k n (rw t at e))))
+    cases (is_sort k x.sort && eqb n x.number) (λ t. rw t (let p = matched x k n t in inl (same_entry x k n p.0 p.1)))
+    (λ t. let s : naming (x ∷ l) k n ≡ naming l k n = rw t refl in inr (subst (λ (w : List ℕ). In (entry k n w) l) (inv s) (named-means l k n (rw t at e))))
 
 pub named-is : (l : List Entry) (k : Sort) (n : ℕ) → ToEach Proper l → Named l k n → some (naming l k n) ≡ true
 named-is l k n p m = go l p m.called m.within

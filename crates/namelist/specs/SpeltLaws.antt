@@ -1,14 +1,13 @@
 -- The names of a text or a query that is read are of C-13's form.
-use Rattle.std.specs.Prelude.{ℕ, ◌≤◌, ◌≡◌, refl, List, [], ◌∷◌, ◌++◌, length}
+use Rattle.std.specs.Prelude.{ℕ, List, [], ◌∷◌, ◌++◌}
 use Rattle.std.proofs.Common.{sym as inv, subst}
 use Rattle.grammar.specs.Byte.{IsName, IsVariable}
-use Rattle.grammar.specs.Token.{Token, name, variable, opening, closing, comma, arrow, stop, Piece, token, blank, comment, Spaced, tokens, Spells}
-use Rattle.grammar.specs.Syntax.{Terms, none, variable_then, name_then, Formula, Rule, Turn, first, later, arguments_then, formula_then, body_then, written}
+use Rattle.grammar.specs.Token.{Token, name, variable, opening, closing, comma, arrow, stop, Piece, token, blank, comment, Spaced, tokens}
+use Rattle.grammar.specs.Syntax.{Terms, none, variable_then, name_then, Formula, Rule, Turn, first, later, arguments_then, body_then, written}
 use Rattle.grammar.specs.Names.{Sort, Spot, variable_spot, symbol_spot, spots_then, formula_spots, formulas_spots, text_spots, names}
 use Rattle.grammar.specs.Reading.{Small, SmallFormulas, SmallRules, Writes}
 use Rattle.grammar.specs.Query.{End, more_then, ends_with, asked, Asks, SizedQuery}
 use Rattle.printing.specs.SpacingLaws.{Right, RightFormulas, RightRules}
-use Rattle.printing.specs.SizeLaws.{Fit}
 use Rattle.namelist.specs.Table.{EachFit}
 use Rattle.namelist.specs.Growing.{AllSpots, fit-after}
 

@@ -1,5 +1,5 @@
 -- Tables of names, sort by sort, and the lists that they are written as: numbers from 0, none left out (document 02, C-13).
-use Rattle.std.specs.Prelude.{ℕ, zero, suc, ◌+◌, ◌/◌, ◌%◌, ◌≤◌, ◌<◌, ◌≡◌, refl, true, false, ◌⊎◌, List, [], ◌∷◌, ◌++◌, length, get_or}
+use Rattle.std.specs.Prelude.{ℕ, zero, suc, ◌+◌, ◌/◌, ◌%◌, ◌≤◌, ◌<◌, ◌≡◌, refl, false, List, [], ◌∷◌, ◌++◌, length, get_or}
 use Rattle.std.proofs.Common.{sym as inv, ap, ap₂, ◌∙◌, true≢false, inl, inr, append_assoc, append-nil, arith, eq-eqb, ne_eqb}
 use Rattle.terms.specs.Cases.{cases}
 use Rattle.grammar.specs.Names.{Sort, Constant, Compound, Predicate, same_name, within, is_sort, kind, entries, list_of}

@@ -1,19 +1,14 @@
 -- The tests of a name list, one by one: what each says.
-use Rattle.std.specs.Prelude.{ℕ, zero, suc, ◌+◌, ◌*◌, ◌/◌, ◌%◌, ◌≤◌, ◌<◌, ◌≡◌, refl, ◌⊎◌, Bool, true, false, ◌&&◌, List, [], ◌∷◌, ◌++◌, eqb, ltb, length, get_or, take, drop}
-use Rattle.std.proofs.Common.{sym as inv, ap, ap₂, ◌∙◌, subst, inl, inr, arith, length-append, length-drop, take-append-drop, drop_of_length-le, drop-cons, drop-drop, length-take-le}
+use Rattle.std.specs.Prelude.{ℕ, suc, ◌+◌, ◌≤◌, ◌<◌, ◌≡◌, refl, ◌⊎◌, Bool, true, false, List, [], ◌∷◌, ltb, length, get_or}
+use Rattle.std.proofs.Common.{sym as inv, ap, inl, inr, arith}
 use Rattle.std.proofs.Math.Decide.{dec_lt}
-use borrow.Author.Tests.{ltb-true, ltb-false, lt-ltb, le-ltb, eqb-true, eqb-false}
+use borrow.Author.Tests.{ltb-false, le-ltb}
 use Rattle.terms.specs.Cases.{cases}
 use Rattle.terms.specs.When.{◌⇒◌∣◌}
-use Rattle.format.specs.Format.{Bytes}
-use Rattle.format.specs.Reading.{number_at}
 use Rattle.grammar.specs.Byte.{small, goes_on, All, IsName}
-use Rattle.grammar.specs.Names.{Sort, Constant, Compound, Predicate, kind, same_name, is_sort}
-use Rattle.grammar.specs.NameLaws.{same_true, same_refl}
-use Rattle.grammar.specs.GrowLaws.{is-sort_self}
-use Rattle.namelist.specs.List.{Entry, listed, Before, ToEach, Along, Proper, Apart, IsList}
-use Rattle.namelist.specs.Bytes.{go_on, is_name, sort_of, length_at, name_at, entry_at, rank, rank_at, past, entry_good, good_from, entries_from, entries_of, shares, unshared, all_unshared, is_list}
-use Rattle.namelist.specs.ListLaws.{Stands, Entered, entered, stands-end, stands-more}
+use Rattle.grammar.specs.Names.{Sort, Constant, Compound, Predicate, kind}
+use Rattle.namelist.specs.List.{Entry, Before, ToEach, Proper}
+use Rattle.namelist.specs.Bytes.{go_on, is_name, length_at, name_at, rank, rank_at, past, entry_good}
 
 pub no_test : {X : Type 0} → false ≡ true → X
 no_test e = let z : ◌≡◌ {A = ℕ} 0 1 = cc in absurd (omega arith)
