@@ -20,7 +20,6 @@ use Rattle.matching.specs.declared.pairs.Pairs.{Pairs}
 use Rattle.matching.specs.declared.unifying.Trial.{Trial}
 use Rattle.matching.specs.declared.unifying.Step.TheVariants as Step
 use Rattle.matching.specs.declared.unifying.Tried.{Tried}
-use Rattle.matching.specs.declared.unifying.Tried.TheVariants as Tried
 
 module _ {heap : List ℕ} {base : ℕ} {cells cells' : List ℕ} (x : Extends heap base cells cells') where
   -- nothing comes on the trail

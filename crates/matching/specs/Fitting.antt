@@ -12,9 +12,7 @@ use Rattle.matching.specs.declared.unifying.Trial.{Trial}
 use Rattle.matching.specs.declared.unifying.Step.TheVariants as Step
 use Rattle.matching.specs.declared.unifying.Tried.TheVariants as Tried
 use Rattle.matching.specs.declared.fitting.Hanging.{Hanging}
-use Rattle.matching.specs.declared.fitting.Hanging.TheVariants as Hanging
 use Rattle.matching.specs.declared.fitting.Fitted.{Fitted}
-use Rattle.matching.specs.declared.fitting.Fitted.TheVariants as Fitted
 
 -- a variable that is bound to the row at q weighs so much at most: by the nodes and the places of variables of what the row stands for, one of each at least, and by how often any one is there
 pub record Heavy (heap cells : List ℕ) (base q : ℕ) (r : Weight) : Type 0 where

@@ -24,9 +24,7 @@ use Rattle.matching.specs.declared.unifying.Trial.{Trial}
 use Rattle.matching.specs.Heads.{Matching}
 use Rattle.matching.specs.declared.unifying.Tried.TheVariants as Tried
 use Rattle.matching.specs.declared.fitting.Fitted.{Fitted}
-use Rattle.matching.specs.declared.fitting.Fitted.TheVariants as Fitted
 use Rattle.matching.specs.declared.fitting.Hanging.{Hanging}
-use Rattle.matching.specs.declared.fitting.Hanging.TheVariants as Hanging
 
 row-long : {e : Expr} → Row 1 e → 1 ≤ length e
 row-long (row_var r) = omega arith

@@ -1,22 +1,22 @@
 -- A head matched, pair by pair.
-use Rattle.std.specs.Prelude.{ℕ, suc, ◌+◌, ◌-◌, ◌%◌, ◌<◌, ◌≤◌, ◌≡◌, refl, ◌↔◌, List, [], ◌∷◌, length, get_or, set}
+use Rattle.std.specs.Prelude.{ℕ, suc, ◌+◌, ◌-◌, ◌%◌, ◌<◌, ◌≤◌, ◌≡◌, refl, List, ◌∷◌, length, get_or, set}
 use Rattle.std.proofs.Common.{arith, sym as inv, ap, ◌∙◌, subst, inl, get_or-set_other}
 use Rattle.terms.specs.Node.{var}
 use Rattle.terms.specs.Subst.{In, Subst}
-use Rattle.words.specs.Word.{kind_of, arity_of}
-use Rattle.heap.specs.Heap.{rows, Whole, bound, Made, Solves, Solved}
+use Rattle.words.specs.Word.{kind_of}
+use Rattle.heap.specs.Heap.{rows, Whole, bound, Made, Solves}
 use Rattle.heap.specs.HeapLaws.{rows-var, rows_none, row_inside}
 use Rattle.heap.specs.Following.{Followed, same_start}
 use Rattle.matching.specs.Meeting.{Equal, Bindable, Met}
-use Rattle.matching.specs.MeetLaws.{met_leaf, met-inside, met-apart, apart-clash, bind-right}
-use Rattle.matching.specs.StepLaws.{more-bound, more_same}
-use Rattle.matching.specs.Pairs.{EqualLevels, EqualAll, Due, Alike, Behind, Settled, Entered}
-use Rattle.matching.specs.PairLaws.{first-row-whole, equal-first, behind_last, behind_more}
-use Rattle.matching.specs.Unifying.{Unmixed, Low, Begun, Unseen, More}
+use Rattle.matching.specs.MeetLaws.{met-apart, apart-clash, bind-right}
+use Rattle.matching.specs.StepLaws.{more-bound}
+use Rattle.matching.specs.Pairs.{EqualLevels, Alike, Behind, Settled, Entered}
+use Rattle.matching.specs.PairLaws.{first-row-whole, equal-first}
+use Rattle.matching.specs.Unifying.{Unmixed, Low, Begun, More}
 use Rattle.matching.specs.UnifyLaws.{unmixed_while}
 use Rattle.matching.specs.UnseenLaws.{unseen as more-unseen}
 use Rattle.matching.specs.Heads.{Extends, Onward, Matching}
-use Rattle.matching.specs.declared.meeting.Meeting.TheVariants.{Same, Inside, Clash}
+use Rattle.matching.specs.declared.meeting.Meeting.TheVariants.{Inside, Clash}
 use Rattle.matching.specs.declared.pairs.Pairs.{Pairs}
 use Rattle.matching.specs.declared.unifying.Trial.{Trial}
 

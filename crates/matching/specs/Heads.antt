@@ -9,7 +9,6 @@ use Rattle.matching.specs.declared.pairs.Pairs.{Pairs}
 use Rattle.matching.specs.declared.heads.Way.{Way}
 use Rattle.matching.specs.declared.heads.Way.TheVariants.{On, Unlike, Open}
 use Rattle.matching.specs.declared.heads.Matched.{Matched}
-use Rattle.matching.specs.declared.heads.Matched.TheVariants as Matched
 
 -- more is bound, but of the variables from `base` on alone
 pub record Extends (heap : List ℕ) (base : ℕ) (cells cells' : List ℕ) : Type 0 where

@@ -1,13 +1,13 @@
 -- Two rows that meet, past bound variables: the cases.
-use Rattle.std.specs.Prelude.{ℕ, zero, suc, ◌+◌, ◌%◌, ◌<◌, ◌≤◌, ◌≡◌, refl, ◌↔◌, ltb, length, get_or}
+use Rattle.std.specs.Prelude.{ℕ, suc, ◌+◌, ◌%◌, ◌<◌, ◌≤◌, ◌≡◌, refl, ◌↔◌, ltb, length, get_or}
 use Rattle.std.proofs.Common.{arith, lt-ltb, le-ltb, sym as inv, ap, ◌∙◌, subst}
 use Rattle.std.proofs.Math.Decide.{ℕ_discrete, dec_lt}
-use mathlib.Core.List.{List, [], ◌∷◌, head-eq_of_cons-eq, tail-eq_of_cons-eq}
+use mathlib.Core.List.{List, ◌∷◌, head-eq_of_cons-eq, tail-eq_of_cons-eq}
 use Rattle.terms.specs.When.{◌⇒◌∣◌}
 use Rattle.terms.specs.Subst.{Subst, apply}
 use Rattle.words.specs.Word.{kind_of, arity_of, Fit, node}
 use Rattle.words.specs.PackLaws.{node_inj}
-use Rattle.heap.specs.Heap.{rows, Whole, bound, Made, Solves}
+use Rattle.heap.specs.Heap.{rows, Whole, Made, Solves}
 use Rattle.heap.specs.HeapLaws.{stands-var, stands-sym, rows_none, whole-sym}
 use Rattle.heap.specs.Following.{Followed}
 use Rattle.matching.specs.Meeting.{Equal, Bindable, Met, apart}

@@ -1,10 +1,10 @@
 -- Whether a variable is in what a row stands for.
-use Rattle.std.specs.Prelude.{ℕ, zero, suc, ◌+◌, ◌-◌, ◌%◌, ◌<◌, ◌≤◌, ◌≡◌, refl, List, [], ◌∷◌, ◌++◌, length, get_or}
+use Rattle.std.specs.Prelude.{ℕ, ◌+◌, ◌-◌, ◌<◌, ◌≤◌, ◌≡◌, refl, List, [], ◌∷◌, ◌++◌}
 use Rattle.std.proofs.Common.{arith, sym as inv, ap, ◌∙◌, subst, inl, inr, append-nil, append_assoc}
 use Rattle.terms.specs.Node.{Expr}
 use Rattle.terms.specs.Subst.{In, Subst, apply}
-use Rattle.terms.specs.SubstLaws.{in_left, in_right, in-append}
-use Rattle.words.specs.Word.{kind_of, Fit, node}
+use Rattle.terms.specs.SubstLaws.{in_right, in-append}
+use Rattle.words.specs.Word.{node}
 use Rattle.words.specs.WordLaws.{in-node, word-var, node-var}
 use Rattle.heap.specs.Heap.{rows, Whole, Solved}
 use Rattle.heap.specs.HeapLaws.{rows_none}

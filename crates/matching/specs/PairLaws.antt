@@ -1,5 +1,5 @@
 -- Pairs, one after another.
-use Rattle.std.specs.Prelude.{ℕ, zero, suc, ◌+◌, ◌*◌, ◌-◌, ◌<◌, ◌≤◌, ◌≡◌, refl, ◌↔◌, List, [], ◌∷◌, ◌++◌, length, get_or, drop, set}
+use Rattle.std.specs.Prelude.{ℕ, zero, suc, ◌+◌, ◌*◌, ◌-◌, ◌<◌, ◌≤◌, ◌≡◌, refl, ◌↔◌, List, ◌∷◌, ◌++◌, length, get_or, drop, set}
 use Rattle.std.proofs.Common.{arith, sym as inv, ap, ap₂, ◌∙◌, subst, length-set, get_or-set_same, get_or-set_other}
 use Rattle.std.proofs.Math.Decide.{ℕ_discrete}
 use Rattle.std.proofs.Math.Path.{transport}
@@ -11,7 +11,7 @@ use Rattle.words.specs.Word.{arity_of, Plain, Valids, node}
 use Rattle.heap.specs.Heap.{rows, Whole}
 use Rattle.heap.specs.HeapLaws.{rows_none, row_inside, rows_few, rows_inside, whole-sym, stands-symbol, first-whole, rest-whole, rows-first}
 use Rattle.matching.specs.Meeting.{Equal}
-use Rattle.matching.specs.Pairs.{level_left, level_right, level_due, EqualLevels, EqualAll, Due, Alike, Behind, Settled, Entered}
+use Rattle.matching.specs.Pairs.{level_left, level_right, level_due, EqualLevels, Alike, Behind, Settled, Entered}
 use Rattle.matching.specs.declared.pairs.Pairs.{Pairs}
 
 -- Pairs of the same symbol.

@@ -1,5 +1,5 @@
 -- Pairs of rows that are still to be made equal.
-use Rattle.std.specs.Prelude.{ℕ, zero, suc, ◌+◌, ◌*◌, ◌-◌, ◌<◌, ◌≤◌, ◌≡◌, ◌↔◌, List, length, get_or, set}
+use Rattle.std.specs.Prelude.{ℕ, zero, suc, ◌+◌, ◌*◌, ◌-◌, ◌<◌, ◌≤◌, ◌≡◌, ◌↔◌, List, length, get_or}
 use Rattle.terms.specs.Subst.{Subst, Proper}
 use Rattle.heap.specs.Heap.{Whole}
 use Rattle.matching.specs.Meeting.{Equal}

@@ -1,22 +1,21 @@
 -- One pair of rows made equal.
-use Rattle.std.specs.Prelude.{ℕ, suc, ◌%◌, ◌<◌, ◌≤◌, ◌≡◌, refl, ◌↔◌, length, get_or, set}
+use Rattle.std.specs.Prelude.{ℕ, suc, ◌%◌, ◌<◌, ◌≤◌, ◌≡◌, refl, length, get_or, set}
 use Rattle.std.proofs.Common.{arith, lt-ltb, le-ltb, sym as inv, ap, ◌∙◌, subst, inl, inr, length-set, get_or-set_same, get_or-set_other}
 use Rattle.std.proofs.Math.Decide.{ℕ_discrete, dec_lt}
-use mathlib.Core.List.{List, [], ◌∷◌, head-eq_of_cons-eq}
-use Rattle.terms.specs.Node.{Symbol, var, sym, Expr}
+use mathlib.Core.List.{List, head-eq_of_cons-eq}
+use Rattle.terms.specs.Node.{Symbol, var, sym}
 use Rattle.terms.specs.Subst.{In, Subst, apply, after, itself, only}
-use Rattle.words.specs.Word.{kind_of, arity_of, node}
+use Rattle.words.specs.Word.{kind_of}
 use Rattle.words.specs.WordLaws.{node-sym}
-use Rattle.heap.specs.Heap.{rows, Whole, bound, Made, Solves, Solved}
+use Rattle.heap.specs.Heap.{rows, bound, Made, Solved}
 use Rattle.heap.specs.HeapLaws.{stands-var, stands-sym}
 use Rattle.heap.specs.BindLaws.{bind-made, bind_iff, bind-solved, bind-none}
-use Rattle.matching.specs.Meeting.{Equal, Bindable, Met}
-use Rattle.matching.specs.Binding.{noted, counted, Trailed, trail-bind}
-use Rattle.matching.specs.Unifying.{More, Bound, Hung, KeptUp, Stepped}
-use Rattle.matching.specs.declared.meeting.Meeting.TheVariants.{Same, Inside, Join, Hang, Clash}
+use Rattle.matching.specs.Meeting.{Bindable, Met}
+use Rattle.matching.specs.Binding.{noted, counted, trail-bind}
+use Rattle.matching.specs.Unifying.{More, Hung, KeptUp, Stepped}
+use Rattle.matching.specs.declared.meeting.Meeting.TheVariants.{Same}
 use Rattle.matching.specs.declared.unifying.Trial.{Trial}
 use Rattle.matching.specs.declared.unifying.Step.{Step}
-use Rattle.matching.specs.declared.unifying.Step.TheVariants as Step
 
 -- how long the trail is, and how many are on it
 module _ (base v n : ℕ) (trail : List ℕ) where

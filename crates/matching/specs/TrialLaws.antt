@@ -1,6 +1,6 @@
 -- Two rows whose variables are all free: what is bound for them is a most general unifier of the two, or there is none.
-use Rattle.std.specs.Prelude.{ℕ, suc, ◌≡◌, refl, List}
-use Rattle.std.proofs.Common.{arith, sym as inv, ◌∙◌, append-nil}
+use Rattle.std.specs.Prelude.{ℕ, ◌≡◌, refl, List}
+use Rattle.std.proofs.Common.{arith}
 use Rattle.terms.specs.Row.{row_end, row_var}
 use Rattle.terms.specs.Subst.{Subst, itself, Unifies, MostGeneral}
 use Rattle.heap.specs.Heap.{rows, bound, Solves, Solved}

@@ -1,5 +1,5 @@
 -- Two rows made equal, pair by pair.
-use Rattle.std.specs.Prelude.{ℕ, ◌+◌, ◌-◌, ◌<◌, ◌≤◌, ◌≡◌, refl, ◌↔◌, List, length}
+use Rattle.std.specs.Prelude.{ℕ, ◌+◌, ◌<◌, ◌≤◌, ◌≡◌, refl, ◌↔◌, List, length}
 use Rattle.std.proofs.Common.{arith, sym as inv, ◌∙◌, subst, inl, inr}
 use Rattle.terms.specs.Subst.{In, Subst, itself}
 use Rattle.terms.specs.SubstLaws.{in-apply}

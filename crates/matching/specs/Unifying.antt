@@ -1,21 +1,14 @@
 -- Two rows of the heap made equal: what is bound for it, and nothing else.
-use Rattle.std.specs.Prelude.{ℕ, suc, ◌+◌, ◌<◌, ◌≤◌, ◌≡◌, refl, ◌↔◌, List, [], ◌∷◌, length, get_or, set}
-use Rattle.std.proofs.Common.{arith, sym as inv, ap, ◌∙◌, subst, inl, inr, length-set}
-use Rattle.terms.specs.Node.{var, sym, Expr}
-use Rattle.terms.specs.Subst.{In, Subst, apply, after, itself, only}
-use Rattle.words.specs.Word.{kind_of, Fits, node}
-use Rattle.words.specs.WordLaws.{node-sym}
+use Rattle.std.specs.Prelude.{ℕ, suc, ◌+◌, ◌<◌, ◌≤◌, ◌≡◌, ◌↔◌, List, length, set}
+use Rattle.terms.specs.Subst.{In, Subst, apply}
+use Rattle.words.specs.Word.{Fits}
 use Rattle.heap.specs.Heap.{rows, Whole, bound, Made, Solves, Solved}
-use Rattle.heap.specs.HeapLaws.{stands-var, stands-sym}
-use Rattle.heap.specs.BindLaws.{bind-made, bind_iff, bind-solved, bind-none}
-use Rattle.matching.specs.Meeting.{Equal, Bindable, Met}
-use Rattle.matching.specs.Binding.{noted, counted, Trailed, trail-bind}
-use Rattle.matching.specs.declared.meeting.Meeting.TheVariants.{Same, Join}
+use Rattle.matching.specs.Meeting.{Equal}
+use Rattle.matching.specs.Binding.{noted, counted, Trailed}
 use Rattle.matching.specs.declared.unifying.Trial.{Trial}
 use Rattle.matching.specs.declared.unifying.Step.{Step}
 use Rattle.matching.specs.declared.unifying.Step.TheVariants.{Done, Inside, Clash, Tired}
 use Rattle.matching.specs.declared.unifying.Tried.{Tried}
-use Rattle.matching.specs.declared.unifying.Tried.TheVariants as Tried
 
 -- as long as no goal variable is bound, what stands before the clause has none of the clause's variables
 abbrev pub Unmixed : List ℕ → List ℕ → Trial → Type 0
