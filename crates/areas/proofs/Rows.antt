@@ -7,7 +7,6 @@ use lib.ListN.{length, get_or, set, take, drop, length-append, take-append-drop}
 use lib.Seq.{take-suc, drop-cons, append_snoc, set_at, get_or-take, drop_at, take_at, length-take-le}
 use Rattle.search.specs.Next.{Goal}
 use Rattle.words.specs.Held.{FormulasIn, GoalIn, RowIn}
-use Rattle.words.specs.HeldLaws.{row_of}
 use Rattle.words.specs.WordLaws.{fits_more}
 
 -- none yet

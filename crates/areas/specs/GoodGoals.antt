@@ -82,9 +82,11 @@ resolved-tabled f g c h first rest clause t =
 pub first-tabled : (P : Book) (f : Expr) (k : ℕ) (c : Clause) → GoodClauses P → First f P k c → AllTabled (c.head ∷ c.body)
 first-tabled (d ∷ P) f zero c good p = subst (λ e. AllTabled (e.head ∷ e.body)) p.0 (formulas-tabled (d.head ∷ d.body) good.0.formulas)
 first-tabled (d ∷ P) f (suc k) c good p = first-tabled P f k c good.1 p.1
+first-tabled [] f k c good p = elim p [ ]
 
 pub next-tabled : (P : Book) → GoodClauses P → (g : Goal) → AllTabled g → (k : ℕ) (h : Goal) → Next P g k h → AllTabled h
 next-tabled P good (f ∷ g) p k h n = resolved-tabled f g n.0 h p.0 p.1 (first-tabled P f k n.0 good n.1) n.2
+next-tabled P good [] p k h n = elim n [ ]
 
 -- From the ranges to formulas: a variable is at most as high as there are nodes.
 

@@ -40,6 +40,7 @@ module _ (arity_in : ℕ → ℕ) where
   uses-fit (sym (compound f m) ∷ e) s p n x = uses-fit e s.1 p n x
   uses-fit (sym (predicate q m) ∷ e) s p n (inl x) = inv x.1 ∙ s.0 ∙ ap arity_in x.0
   uses-fit (sym (predicate q m) ∷ e) s p n (inr x) = uses-fit e s.1 p n x
+  uses-fit [] s p n x = elim x [ ]
 
   -- a goal's formulas all fit
   abbrev AllFit : Goal → Type 0
@@ -78,9 +79,11 @@ module _ (arity_in : ℕ → ℕ) where
   first_fits : (P : Book) (f : Expr) (k : ℕ) (c : Clause) → BookFits P → First f P k c → AllFit (c.head ∷ c.body)
   first_fits (d ∷ P) f zero c b p = subst (λ e. AllFit (e.head ∷ e.body)) p.0 b.0
   first_fits (d ∷ P) f (suc k) c b p = first_fits P f k c b.1 p.1
+  first_fits [] f k c b p = elim p [ ]
 
   next_fits : (P : Book) → GoodClauses P → BookFits P → (g : Goal) → AllTabled g → AllFit g → (k : ℕ) (h : Goal) → Next P g k h → AllFit h
   next_fits P good b (f ∷ g) t a k h n = resolved-fits f g n.0 h t (first-tabled P f k n.0 good n.1) a.1 (first_fits P f k n.0 b n.1).1 n.2
+  next_fits P good b [] t a k h n = elim n [ ]
 
   module _ (P : Book) (good_book : GoodBook P) (fits : BookFits P) (q : Goal) (good_query : GoodGoal q) (asks : AllFit q) where
     path-fits : (t : ℕ) (g : Goal) → goal_at P q t ≡ some g → AllTabled g × AllFit g
@@ -140,6 +143,7 @@ same_head (c ∷ P) f p n s h (inl k) =
     let same = h k.0 (used-left p k.0 (goal_uses (c.head ∷ c.body)) (book_uses P) here) in
     inl (record { predicate = predicate p n; formula = s; head = k.1 ∙ ap (λ m. some (predicate p m)) same })
 same_head (c ∷ P) f p n s h (inr k) = inr (same_head P f p n s (λ m x. h m (used-right p m (goal_uses (c.head ∷ c.body)) (book_uses P) x)) k)
+same_head [] f p n s h x3 = elim x3 [ ]
 
 -- where a goal suits the book, a formula whose predicate and arity the book does not know has a number that it does not know
 pub unknown-number : (P : Book) (f : Expr) (g : Goal) → Suits P (f ∷ g) → (Known P f → ⊥) → (p n : ℕ) → symbol_for f ≡ some (predicate p n) → KnownNumber P p → ⊥
