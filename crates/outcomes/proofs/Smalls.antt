@@ -1,5 +1,5 @@
 -- The figures of a code are small: a clause's number is below the book's, an argument is one of a formula that is held.
-use Prim.Native.Nat.{ℕ, ◌≤◌, ◌<◌}
+use Prim.Native.Nat.{ℕ, ◌≤◌}
 use native.Mathlib.Omega.{arith}
 use native.Mathlib.Decide.{dec_lt, ℕ_discrete}
 use mathlib.Core.Path.{◌≡◌, refl, sym as inv, ap, ◌∙◌, subst}
@@ -8,7 +8,7 @@ use lib.ListN.{length}
 use Rattle.terms.specs.Node.{Expr}
 use Rattle.terms.specs.Row.{Row}
 use Rattle.search.specs.Next.{Clause, Book, Goal, clause_at}
-use Rattle.search.specs.Fail.{FailsAt, failing}
+use Rattle.search.specs.Fail.{failing}
 use Rattle.search.specs.FailLaws.{Failing, other, meets, fails, failing-says}
 use Rattle.search.specs.Furthest.{Figures, furthest, stuck_figures, figures, figures_22, figures-other}
 use Rattle.search.specs.FurthestLaws.{Best, furthest-best}

@@ -1,7 +1,7 @@
 -- What the answer of a run means, over bytes (document 02, C-11): what stands at the front of the answer area is the image of the query under the run's composed unifiers, and with
 -- code 20 every instance of it follows from the book.
 use Rattle.std.specs.Prelude.{ℕ, ◌≤◌, ◌≡◌, List, map, length, take, drop}
-use Rattle.std.proofs.Common.{arith, sym as inv, ap, ap₂, ◌∙◌, subst}
+use Rattle.std.proofs.Common.{sym as inv, ap, ap₂, ◌∙◌, subst}
 use Rattle.std.proofs.Math.Seq.{take-append_seam}
 use Rattle.terms.specs.Row.{Every}
 use Rattle.terms.specs.Subst.{Subst, apply}
@@ -9,7 +9,7 @@ use Rattle.terms.specs.Substitution.{Substitution}
 use Rattle.terms.specs.Renaming.{Renaming}
 use Rattle.search.specs.Next.{Book, Goal}
 use Rattle.search.specs.Resolution.{AtomicClauses, Atomics}
-use Rattle.search.specs.Answer.{Answered, answer_at, Answers}
+use Rattle.search.specs.Answer.{Answered, Answers}
 use Rattle.search.specs.AnswerLaws.{answered-runs}
 use Rattle.search.specs.AnswerRuns.{answers-goal}
 use Rattle.search.specs.Derivation.{Derivation, Follows}

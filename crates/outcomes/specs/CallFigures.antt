@@ -1,6 +1,6 @@
 -- The figures of the two calls of a single step (document 02, C-16): where they are 0, how big they are, and when the area stays as it was. "The pick .. never writes; its steps are 0.
 -- The apply call answers 25 with steps 1 and its clause number and writes the next goal, or is refused and writes nothing."
-use Rattle.std.specs.Prelude.{ℕ, ◌^◌, ◌≤◌, ◌<◌, ◌≡◌, refl, true, false, List, [], ◌∷◌, length}
+use Rattle.std.specs.Prelude.{ℕ, ◌^◌, ◌≤◌, ◌<◌, ◌≡◌, refl, true, List, [], ◌∷◌, length}
 use Rattle.std.proofs.Common.{arith, lt-ltb, le-ltb, ap}
 use Rattle.std.proofs.Math.Decide.{ℕ_discrete, dec_lt}
 use Rattle.terms.specs.Cases.{cases}
@@ -9,7 +9,7 @@ use Rattle.search.specs.Room.{fits}
 use Rattle.search.specs.Step.{Step, solved, stuck, to, next}
 use Rattle.search.specs.Known.{stuck_code}
 use Rattle.search.specs.Furthest.{no_figures}
-use Rattle.search.specs.Single.{Single, not_taken, taken, if_fits}
+use Rattle.search.specs.Single.{Single, not_taken, taken}
 use Rattle.search.specs.Pick.{picked, applied, apply_by}
 use Rattle.format.specs.Format.{Bytes}
 use Rattle.format.specs.Decode.{book_of, goal_of}

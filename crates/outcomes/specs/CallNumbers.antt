@@ -1,5 +1,5 @@
 -- The one number that C gets of each of the two calls of a single step (document 02, C-16): as the run's, with the clause number in the place of the steps.
-use Rattle.std.specs.Prelude.{ℕ, ◌+◌, ◌*◌, ◌^◌, ◌<◌, ◌≡◌, Bool, true, false, eqb, ltb}
+use Rattle.std.specs.Prelude.{ℕ, ◌+◌, ◌*◌, ◌^◌, ◌<◌, Bool, true, false, eqb, ltb}
 use Rattle.terms.specs.When.{◌⇒◌∣◌}
 use Rattle.outcomes.specs.declared.Picked.{Picked}
 use Rattle.outcomes.specs.declared.Stepped.{Stepped}

@@ -1,6 +1,6 @@
 -- The demands over bytes: what each code says of the path; demand 3, both halves. Nothing here looks at the code: `run_answer`, `run_area` and `run_answer_area` are what the
 -- contract of `run` says.
-use Rattle.std.specs.Prelude.{ℕ, ◌+◌, ◌-◌, ◌*◌, ◌≤◌, max, ◌≡◌, List, length}
+use Rattle.std.specs.Prelude.{ℕ, ◌+◌, ◌-◌, ◌*◌, ◌≤◌, max, ◌≡◌, List}
 use Rattle.std.proofs.Common.{arith, sym as inv, ap, ◌∙◌, subst}
 use Rattle.std.proofs.Math.Option.{some}
 use Rattle.terms.specs.Row.{Formulas}

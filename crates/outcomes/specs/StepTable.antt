@@ -1,6 +1,6 @@
 -- Single steps from document 01's cases: bytes in, the eight numbers and the area out, as one claim about what the contract of the step says. P8 takes two steps, by the
 -- clause number 0 and by the clause number 1; a step is refused where a run is.
-use Rattle.std.specs.Prelude.{ℕ, ◌≡◌, refl, List, [], ◌∷◌, map, length}
+use Rattle.std.specs.Prelude.{ℕ, ◌≡◌, refl, List, ◌∷◌, map, length}
 use Rattle.std.proofs.Common.{sym as inv, ap, ◌∙◌}
 use Rattle.std.proofs.Math.Option.{Option, none, some}
 use Rattle.search.specs.Next.{Goal}

@@ -1,12 +1,12 @@
 -- Why a goal is stuck, of a good book: what its figures say (document 02, C-19).
-use Rattle.std.specs.Prelude.{◌≤◌, length, ◌≡◌, refl, [], ◌∷◌}
+use Rattle.std.specs.Prelude.{◌≤◌, length, ◌≡◌, [], ◌∷◌}
 use Rattle.std.proofs.Common.{add-zero, sym as inv, ◌∙◌, inl, inr}
-use Rattle.std.proofs.Math.Option.{some, none-ne-some, some-injective}
+use Rattle.std.proofs.Math.Option.{none-ne-some, some-injective}
 use Rattle.terms.specs.Node.{Symbol, arity, var, sym, Expr}
 use Rattle.terms.specs.Row.{Row, row_sym, Atom, atom}
 use Rattle.terms.specs.RowLaws.{row-long}
 use Rattle.search.specs.Next.{Book, Clauses, NoneMeets}
-use Rattle.search.specs.Known.{symbol_for, Alike, Known}
+use Rattle.search.specs.Known.{Alike, Known}
 use Rattle.search.specs.KnownLaws.{AtomHeads}
 use Rattle.search.specs.Furthest.{Figures, Furthest, furthest}
 use Rattle.search.specs.FurthestLaws.{furthest-says, furthest-one}
@@ -35,6 +35,7 @@ alike-atom (sym s ∷ f) (atom {p} {n}) x = rw (some-injective s _ (x.formula �
 known-atom : (P : Book) (f : Expr) → AtomHeads P → Known P f → Atom f
 known-atom (c ∷ P) f h (inl a) = alike-atom f h.0 a
 known-atom (c ∷ P) f h (inr k) = known-atom P f h.1 k
+known-atom [] f h x'' = elim x'' [ ]
 
 module _ (P : Book) (heads : AtomHeads P) (clauses : Clauses P) (f : Expr) (row : Row 1 f) (known : Known P f) where
   pub stuck-says : NoneMeets f P → Furthest P f (furthest P f)

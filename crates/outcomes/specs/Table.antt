@@ -1,6 +1,6 @@
 -- Document 01's cases P1 to P12: bytes in, the numbers and both areas out (document 02, C-11), as one claim about what the contract of the run says. P10 to P12 are the first of the
 -- refused books; cases 16 and 17 stand behind them.
-use Rattle.std.specs.Prelude.{ℕ, ◌+◌, ◌*◌, ◌≤◌, ◌≡◌, refl, List, [], ◌∷◌, map, length}
+use Rattle.std.specs.Prelude.{ℕ, ◌+◌, ◌*◌, ◌≤◌, ◌≡◌, refl, List, ◌∷◌, map}
 use Rattle.std.proofs.Math.Decide.{dec_le}
 use Rattle.std.proofs.Common.{sym as inv, ap, ◌∙◌}
 use Rattle.std.proofs.Math.Option.{Option, none, some}

@@ -22,7 +22,6 @@ use Rattle.outcomes.specs.Outcome.{refusal, room, step_answer, step_area, run_an
 use Rattle.outcomes.specs.Figures.{refusal-low, taken-by-code}
 use Rattle.outcomes.specs.Calls.{pick-refused}
 use Rattle.outcomes.specs.Images.{images}
-use Rattle.outcomes.specs.StepSays as StepSays
 use Rattle.outcomes.specs.StepSays.{StepSays, step-taken, step-says}
 use Rattle.outcomes.specs.CallSays as CallSays
 use Rattle.outcomes.specs.CallSays.{PickSays, pick-says}
