@@ -1,10 +1,10 @@
 -- What is printed is read again (document 02, C-14), over the two contracts: the printed text is read as the book, renumbered one to one, and as the same book if its symbols are
 -- already numbered as C-13 would; printing what was read and reading it again changes nothing.
-use Rattle.std.specs.Prelude.{ℕ, zero, suc, ◌+◌, ◌≤◌, ◌<◌, ◌≡◌, refl, ◌⊎◌, true, List, [], ◌∷◌, ◌++◌, length, get_or, take, drop}
-use Rattle.std.proofs.Common.{sym as inv, ap, ap₂, ◌∙◌, subst, inl, inr, arith, take-suc, take_all}
+use Rattle.std.specs.Prelude.{ℕ, zero, suc, ◌≤◌, ◌<◌, ◌≡◌, refl, ◌⊎◌, true, List, [], ◌∷◌, ◌++◌, length, get_or, take, drop}
+use Rattle.std.proofs.Common.{sym as inv, ap, ap₂, ◌∙◌, subst, inl, inr, arith, take-suc}
 use Rattle.std.proofs.Math.Decide.{dec_lt}
 use Rattle.std.proofs.Math.Seq.{take-append_seam, take-length}
-use Rattle.terms.specs.Node.{constant, compound, predicate, Node, var, sym, Expr}
+use Rattle.terms.specs.Node.{constant, compound, predicate, var, sym, Expr}
 use Rattle.search.specs.Next as Next
 use Rattle.words.specs.Flat.{flat}
 use Rattle.format.specs.declared.Check.{Check}
@@ -16,8 +16,8 @@ use Rattle.format.proofs.Decoding.{book_of-good, book_of-image}
 use Rattle.grammar.specs.Syntax.{Rule}
 use Rattle.grammar.specs.Names as Names
 use Rattle.grammar.specs.Names.{Sort, Constant, Compound, Predicate, symbol_for, text_spots, names, book, list_of, name_list}
-use Rattle.grammar.specs.Reading.{Sized, Reading, reading-one}
-use Rattle.grammar.specs.GoodLaws.{reading-good, sized-good}
+use Rattle.grammar.specs.Reading.{Reading, reading-one}
+use Rattle.grammar.specs.GoodLaws.{reading-good}
 use Rattle.printing.specs.Named.{Naming, printed, named_rules}
 use Rattle.printing.specs.Renumbered.{Renumbering, renumber_book, Uses, book_nodes, OneToOne}
 use Rattle.printing.specs.UseLaws.{names_are, Distinct}
@@ -31,7 +31,7 @@ use Rattle.namelist.specs.NamingLaws.{AllNamed, some, named-means, named-fit, na
 use Rattle.namelist.specs.Table.{EachFit, table_entries, table-naming}
 use Rattle.namelist.specs.SpeltLaws.{writes-right, names-fit}
 use Rattle.printouts.specs.declared.Printout.{Printout}
-use Rattle.printouts.specs.Outcome.{Prints, not_good, no_list, no_name, no_room, prints, outcome, outcome_area, print_answer, print_area, PrintsBook}
+use Rattle.printouts.specs.Outcome.{Prints, not_good, no_list, no_name, no_room, prints, print_answer, print_area, PrintsBook}
 use Rattle.printouts.specs.OutcomeLaws.{outcome-prints}
 use Rattle.printouts.specs.OwnLaws.{own-list}
 
@@ -109,7 +109,7 @@ pub lists-same : (g h : Sort → List (List ℕ)) → ((k : Sort) → g k ≡ h 
 lists-same g h e =
     ap₂ (λ (x y : List ℕ). x ++ y) (ap (Names.entries Constant 0) (e Constant)) (ap₂ (λ (x y : List ℕ). x ++ y) (ap (Names.entries Compound 0) (e Compound)) (ap (Names.entries Predicate 0) (e Predicate)))
 
-terms-low : {m : ℕ} (k : Sort) (n : ℕ) (e : Expr) → Format.Terms m e → Uses k n e → n < 65536
+terms-low : (k : Sort) (n : ℕ) (e : Expr) → {m : ℕ} → Format.Terms m e → Uses k n e → n < 65536
 terms-low k n [] terms_none u = absurd u
 terms-low k n (var v ∷ e) (terms_var h t) (inl (a, p)) = let z : ◌≡◌ {A = ℕ} 0 1 = cc in absurd (omega arith)
 terms-low k n (var v ∷ e) (terms_var h t) (inr u) = terms-low k n e t u
@@ -117,6 +117,7 @@ terms-low k n (sym (constant c) ∷ e) (terms_constant h t) (inl (a, p)) = omega
 terms-low k n (sym (constant c) ∷ e) (terms_constant h t) (inr u) = terms-low k n e t u
 terms-low k n (sym (compound f i) ∷ e) (terms_compound h l g t) (inl (a, p)) = omega (arith, h, (symbol-same Compound k f n i a p).1)
 terms-low k n (sym (compound f i) ∷ e) (terms_compound h l g t) (inr u) = terms-low k n e t u
+terms-low k n (sym (predicate _ _) ∷ e) {m = m} x8 u = elim x8 [ ]
 
 uses_either : (k : Sort) (n : ℕ) (d e : Expr) → Uses k n (d ++ e) → Uses k n d ⊎ Uses k n e
 uses_either k n [] e u = inr u
@@ -126,6 +127,10 @@ uses_either k n (x ∷ d) e (inr u) = elim (uses_either k n d e u) [ inl v ↦ i
 formula-low : (k : Sort) (n : ℕ) (e : Expr) → IsFormula e → Uses k n e → n < 65536
 formula-low k n (sym (predicate p i) ∷ e) (formula h l t) (inl (a, q)) = omega (arith, h, (symbol-same Predicate k p n i a q).1)
 formula-low k n (sym (predicate p i) ∷ e) (formula h l t) (inr u) = terms-low k n e t u
+formula-low k n [] x'' _ = elim x'' [ ]
+formula-low k n (var _ ∷ e) x7 _ = elim x7 [ ]
+formula-low k n (sym (constant _) ∷ e) x11 _ = elim x11 [ ]
+formula-low k n (sym (compound _ _) ∷ e) x13 _ = elim x13 [ ]
 
 formulas-low : (k : Sort) (n : ℕ) (g : Next.Goal) → AreFormulas g → Uses k n (flat g) → n < 65536
 formulas-low k n [] h u = absurd u

@@ -1,5 +1,5 @@
 -- A goal that is printed is read again (document 02, C-14) as it was, against the names that it was printed with; an answer as it was but for the numbers of its variables.
-use Rattle.std.specs.Prelude.{ℕ, zero, suc, ◌≤◌, ◌<◌, ◌≡◌, refl, true, false, List, [], ◌∷◌, ◌++◌, length, get_or, take}
+use Rattle.std.specs.Prelude.{ℕ, zero, suc, ◌≤◌, ◌<◌, ◌≡◌, refl, true, List, [], ◌∷◌, length, get_or, take}
 use Rattle.std.proofs.Common.{sym as inv, ap, ap₂, ◌∙◌, subst, inl, inr, append-nil, arith}
 use Rattle.terms.specs.Cases.{cases}
 use Rattle.terms.specs.Node.{constant, compound, predicate, var, sym, Expr}

@@ -1,6 +1,6 @@
 -- An answer that its check finds good is the image of formulas within a goal's sizes, and these are read back from it.
 use Rattle.std.specs.Prelude.{ℕ, zero, suc, ◌+◌, ◌-◌, ◌≤◌, ◌<◌, ◌≡◌, refl, List, [], ◌∷◌, ◌++◌, length, drop}
-use Rattle.std.proofs.Common.{sym as inv, ap, ap₂, ◌∙◌, subst, append-nil, arith, length-drop, length-append, drop_of_length-le}
+use Rattle.std.proofs.Common.{sym as inv, ap, ap₂, ◌∙◌, subst, arith, length-drop, length-append, drop_of_length-le}
 use Rattle.terms.specs.Node.{Symbol, constant, compound, predicate, var, sym, Expr}
 use Rattle.terms.specs.RowLaws.{first-row, rest-row}
 use Rattle.search.specs.Next as Next
@@ -12,7 +12,7 @@ use Rattle.format.specs.Reading.{body_length, number_at, record_at}
 use Rattle.format.specs.Format as Format
 use Rattle.format.specs.Format.{record_kind, encode_record, encode, node_record, node_records, goal_records, encode_goal, Bytes, terms_none, terms_var, terms_constant, terms_compound, formula, IsFormula, AreFormulas, GoodGoal}
 use Rattle.format.specs.Arities.{Use, use_of, node_uses, book_uses, OneArity, Suits}
-use Rattle.format.specs.Decode.{book_of, records_from, nodes_of, formulas_of, formulas_after, goal_of}
+use Rattle.format.specs.Decode.{book_of, nodes_of, formulas_of, formulas_after, goal_of}
 use Rattle.format.proofs.Decoding.{records-back, goal_of-good, goal_of-suits}
 use Rattle.format.proofs.Failing.{record_length}
 use Rattle.format.proofs.Premises.{formula-row}
@@ -37,7 +37,7 @@ like-length like_none = refl
 like-length (like_var h l) = ap suc (like-length l)
 like-length (like_sym l) = ap suc (like-length l)
 
-terms-like : {n : ℕ} {d e : Expr} → Like d e → Format.Terms n e → Format.Terms n d
+terms-like : {d e : Expr} → Like d e → {n : ℕ} → Format.Terms n e → Format.Terms n d
 terms-like like_none terms_none = terms_none
 terms-like (like_var h l) (terms_var g t) = terms_var h (terms-like l t)
 terms-like (like_sym l) (terms_constant g t) = terms_constant g (terms-like l t)
@@ -45,6 +45,8 @@ terms-like (like_sym l) (terms_compound g p q t) = terms_compound g p q (terms-l
 
 formula-like : {d e : Expr} → Like d e → IsFormula e → IsFormula d
 formula-like (like_sym l) (formula g h t) = formula g h (terms-like l t)
+formula-like like_none x4 = elim x4 [ ]
+formula-like (like_var {v = v} {w = w} {d = d} {e = e} _ _) x11 = elim x11 [ ]
 
 pub record Split (d e f : Expr) : Type 0 where
   pub front : Expr
@@ -59,6 +61,9 @@ like-split (var v ∷ d) (var w ∷ e) f (like_var h l) =
     let s = like-split d e f l in record { front = var v ∷ s.front; rest = s.rest; is = ap (λ (x : Expr). var v ∷ x) s.is; front_like = like_var h s.front_like; rest_like = s.rest_like }
 like-split (sym x ∷ d) (sym y ∷ e) f (like_sym l) =
     let s = like-split d e f l in record { front = sym x ∷ s.front; rest = s.rest; is = ap (λ (a : Expr). sym x ∷ a) s.is; front_like = like_sym s.front_like; rest_like = s.rest_like }
+like-split [] (_ ∷ e) f l = elim l [ ]
+like-split (var v ∷ d) (sym y ∷ e) f l = elim l [ ]
+like-split (sym x ∷ d) (var w ∷ e) f l = elim l [ ]
 
 pub record FormulasOf (d : Expr) (n : ℕ) : Type 0 where
   pub goal : Next.Goal
@@ -72,6 +77,7 @@ formulas-like (f ∷ g) d h l =
     let s = like-split d f (flat g) l in
     let r = formulas-like g s.rest h.1 s.rest_like in
     record { goal = s.front ∷ r.goal; is = s.is ∙ ap (λ (x : Expr). s.front ++ x) r.is; formulas = (formula-like s.front_like h.0, r.formulas); many = ap suc r.many }
+formulas-like [] (_ ∷ _) h l = elim l [ ]
 
 -- The nodes that stood there
 

@@ -1,18 +1,17 @@
 -- What is left of bytes whose variables' numbers are cleared: places and kinds, and all other records.
-use Rattle.std.specs.Prelude.{ℕ, zero, suc, ◌+◌, ◌-◌, ◌*◌, ◌≤◌, ◌<◌, ◌≡◌, true, false, List, [], ◌∷◌, ◌++◌, length, get_or, set, drop, eqb, ltb}
+use Rattle.std.specs.Prelude.{ℕ, zero, suc, ◌+◌, ◌-◌, ◌*◌, ◌≤◌, ◌<◌, ◌≡◌, List, [], ◌∷◌, ◌++◌, length, get_or, set, drop, eqb, ltb}
 use Rattle.std.proofs.Math.Path.{refl}
-use Rattle.std.proofs.Common.{sym as inv, ap, ap₂, ◌∙◌, subst, arith, lt-ltb, le-ltb, eq-eqb, ne_eqb, length-drop, drop_of_length-le}
-use Rattle.std.proofs.Math.Decide.{dec_lt, ℕ_discrete}
+use Rattle.std.proofs.Common.{sym as inv, ap, ap₂, ◌∙◌, subst, arith, lt-ltb, le-ltb, ne_eqb}
+use Rattle.std.proofs.Math.Decide.{dec_lt}
 use Rattle.std.proofs.Math.ListN.{length-set}
 use Rattle.std.proofs.Math.Seq.{get_or-set_other, drop-set-lt}
 use Rattle.terms.specs.Cases.{cases}
-use Rattle.terms.specs.Node.{constant, compound, predicate, var, sym, Expr}
 use Rattle.format.specs.declared.Record.{Record}
 use Rattle.format.specs.declared.Record.TheVariants.{Variable, Constant, Compound, Formula, Clause, Goal, End}
 use Rattle.format.specs.Reading.{body_length, number_at, record_at}
-use Rattle.format.specs.Format.{record_kind, encode_record, encode, node_record, node_records, Bytes}
-use Rattle.format.proofs.Encoded.{Encoded, encoded}
-use Rattle.format.proofs.Items.{NarrowRecord, Kinded, k1, k2, k3, k4, k5, k6, k7, Decoded, decode}
+use Rattle.format.specs.Format.{record_kind, encode_record, Bytes}
+use Rattle.format.proofs.Encoded.{encoded}
+use Rattle.format.proofs.Items.{NarrowRecord, Kinded, k1, k2, k3, k4, k5, k6, k7, decode}
 use Rattle.printouts.specs.Answer.{clear_at, cleared}
 
 -- One record

@@ -1,6 +1,6 @@
 -- Bytes laid into an area from a place on; those that have no room in it are counted, no further than to 65,537.
-use Rattle.std.specs.Prelude.{ℕ, suc, ◌+◌, ◌≤◌, ◌<◌, ◌≡◌, refl, true, false, List, [], ◌∷◌, ◌++◌, length, set, take, drop, ltb}
-use Rattle.std.proofs.Common.{sym as inv, ap, ap₂, ◌∙◌, subst, arith, ltb-true, ltb-false, lt-ltb, le-ltb, length-set}
+use Rattle.std.specs.Prelude.{ℕ, suc, ◌+◌, ◌≤◌, ◌<◌, ◌≡◌, refl, List, [], ◌∷◌, ◌++◌, length, set, drop, ltb}
+use Rattle.std.proofs.Common.{sym as inv, ap, ap₂, ◌∙◌, arith, ltb-true, ltb-false, lt-ltb}
 use Rattle.std.proofs.Math.Decide.{dec_lt}
 use Rattle.std.proofs.lemmas.List.Edits.{sets, sets-eq}
 use Rattle.terms.specs.When.{◌⇒◌∣◌}

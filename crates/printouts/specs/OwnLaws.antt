@@ -1,5 +1,5 @@
 -- C-13's own list is a name list.
-use Rattle.std.specs.Prelude.{ℕ, ◌≤◌, List, [], length}
+use Rattle.std.specs.Prelude.{◌≤◌, List, [], length}
 use Rattle.std.proofs.Common.{arith}
 use Rattle.grammar.specs.Names.{Sort, list_of, text_spots, names}
 use Rattle.grammar.specs.Syntax.{Rule}

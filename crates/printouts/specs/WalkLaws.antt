@@ -1,8 +1,8 @@
 -- The text record by record is the text by trees.
-use Rattle.std.specs.Prelude.{ℕ, zero, suc, ◌+◌, ◌≤◌, ◌<◌, ◌≡◌, refl, List, [], ◌∷◌, ◌++◌, length, eqb}
-use Rattle.std.proofs.Common.{sym as inv, ap, ap₂, ◌∙◌, subst, append_assoc, append-nil, arith, lt-ltb, length-append}
+use Rattle.std.specs.Prelude.{ℕ, zero, suc, ◌+◌, ◌≤◌, ◌≡◌, refl, List, [], ◌∷◌, ◌++◌, length, eqb}
+use Rattle.std.proofs.Common.{sym as inv, ap, ◌∙◌, append_assoc, arith, lt-ltb, length-append}
 use Rattle.terms.specs.When.{◌⇒◌∣◌}
-use Rattle.terms.specs.Node.{constant, compound, predicate, Node, var, sym, Expr}
+use Rattle.terms.specs.Node.{constant, compound, predicate, var, sym, Expr}
 use Rattle.search.specs.Next as Next
 use Rattle.words.specs.Flat.{flat, flat-size}
 use Rattle.format.specs.Format as Format
@@ -16,7 +16,7 @@ use Rattle.grammar.specs.Names.{count}
 use Rattle.printing.specs.Spacing.{arguments_laid, formula_laid, sign_laid, body_laid, laid, more_laid}
 use Rattle.printing.specs.Named.{Naming, variable_name, first_terms, later_terms, named_terms, named_formula, named_formulas, named_rules, printed, printed_goal}
 use Rattle.printing.specs.NamedLaws.{terms-count}
-use Rattle.printouts.specs.Walk.{sign, ending, begun, closings, left, deeper, walked}
+use Rattle.printouts.specs.Walk.{sign, ending, begun, closings, left, walked}
 
 -- The text that is owed
 
@@ -87,11 +87,12 @@ no-terms [] terms_none z = refl
 no-terms (var v ∷ e) (terms_var h q) z = absurd (omega (arith, z))
 no-terms (sym (constant c) ∷ e) (terms_constant h q) z = absurd (omega (arith, z))
 no-terms (sym (compound f a) ∷ e) (terms_compound h p g q) z = absurd (omega (arith, z))
+no-terms {n = n} (sym (predicate _ _) ∷ e) x8 z = elim x8 [ ]
 
 -- Terms
 
 module _ (name : Naming) (turn : ℕ) (r : List Piece) (rs : List Record) (rest : walked name turn [] rs ≡ bytes r) where
-  terms-walked : {m : ℕ} (o : List ℕ) (e : Expr) → Format.Terms m e → total o ≡ m → Live o → length o + length e ≤ 4096 →
+  terms-walked : (o : List ℕ) (e : Expr) → {m : ℕ} → Format.Terms m e → total o ≡ m → Live o → length o + length e ≤ 4096 →
       walked name turn o (node_records e ++ rs) ≡ bytes (goes o (named_terms name e) r)
   terms-walked [] [] terms_none t l s = rest
   terms-walked (n ∷ o) [] terms_none t l s = absurd (omega (arith, l, t))
@@ -117,6 +118,9 @@ module _ (name : Naming) (turn : ℕ) (r : List Piece) (rs : List Record) (rest 
       ∙ ap (λ (x : List ℕ). name Names.Compound f ++ x)
       (ap (λ (x : List ℕ). 40 ∷ x) (terms-walked (a ∷ n ∷ o) e q (omega arith) p (omega arith))
       ∙ inv (ap bytes (opens a (n ∷ o) (named_terms name e) r p (omega (arith, terms-count name e q))))))
+  terms-walked [] (sym (predicate _ _) ∷ e) x18 t l s = elim x18 [ ]
+  terms-walked (zero ∷ o) (sym (predicate _ _) ∷ e) x17 t l s = elim x17 [ ]
+  terms-walked (suc n ∷ o) (sym (predicate _ _) ∷ e) x18 t l s = elim x18 [ ]
 
   -- a formula, which the sign of its turn stands before
   formula-walked : (e : Expr) → IsFormula e → length e ≤ 4096 → (before : ℕ) → (turn ≡ (eqb before 1 ⇒ 2 ∣ 3)) →
@@ -140,6 +144,10 @@ module _ (name : Naming) (turn : ℕ) (r : List Piece) (rs : List Record) (rest 
           ap (λ (x : Terms). token opening ∷ token (variable w) ∷ arguments_laid later x r) (inv (first-all a ts (omega arith)))
       whole (name_then w own ts) c =
           ap (λ (x : Terms). token opening ∷ token (Token.name w) ∷ arguments_laid first own (arguments_laid later x r)) (inv (first-all a ts (omega arith)))
+  formula-walked [] x3 s before t = elim x3 [ ]
+  formula-walked (var _ ∷ e) x9 s before t = elim x9 [ ]
+  formula-walked (sym (constant _) ∷ e) x14 s before t = elim x14 [ ]
+  formula-walked (sym (compound _ _) ∷ e) x16 s before t = elim x16 [ ]
 
 records-append : (d e : Expr) → node_records (d ++ e) ≡ node_records d ++ node_records e
 records-append [] e = refl
