@@ -1,15 +1,14 @@
 -- The counts behind the open brackets.
-use Prim.Native.Nat.{ℕ, zero, suc, ◌+◌, ◌-◌, ◌≤◌, ◌<◌}
-use mathlib.Core.Path.{◌≡◌, refl, sym as inv, ap, subst, ◌∙◌}
-use mathlib.Core.Bool.{Bool, true, false}
+use Prim.Native.Nat.{ℕ, suc, ◌+◌, ◌-◌, ◌≤◌, ◌<◌}
+use mathlib.Core.Path.{◌≡◌, refl, ap, subst, ◌∙◌}
 use mathlib.Core.List.{List, [], ◌∷◌}
 use native.Mathlib.Omega.{arith}
 use lib.ListN.{length, get_or, set}
 use lib.Dec.{leb}
 use borrow.Author.Tests.{le-leb}
 use lib.Seq.{get_or-set_same, get_or-set_other}
-use Rattle.grammar.specs.Syntax.{Terms, none}
-use Rattle.reading.specs.Part.{Done, none_yet, and_variable, and_name, Part, formulas, inside, filled, comma_may, arrow_may, put}
+use Rattle.grammar.specs.Syntax.{Terms}
+use Rattle.reading.specs.Part.{Done, none_yet, and_variable, and_name, Part, formulas, inside, filled, comma_may, put}
 use Rattle.reading.specs.Reader.{size, full, nodes}
 use Rattle.stages.specs.Stage.{Deep, root, level, root_count, raised, grown}
 

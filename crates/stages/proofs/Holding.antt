@@ -2,16 +2,14 @@
 use Prim.Native.Nat.{ℕ, zero, suc, ◌+◌, ◌-◌, ◌≤◌, ◌<◌}
 use mathlib.Core.Path.{◌≡◌, refl, sym as inv, ap, subst, ◌∙◌}
 use mathlib.Core.Bool.{Bool, true, false, true≢false, ◌||◌}
-use mathlib.Core.List.{List, [], ◌∷◌}
+use mathlib.Core.List.{List}
 use native.Mathlib.Omega.{arith}
 use lib.ListN.{length, get_or, set, length-set}
-use lib.Dec.{leb}
 use borrow.Author.Tests.{le-leb, lt-leb}
-use Rattle.terms.specs.When.{◌⇒◌∣◌}
-use Rattle.grammar.specs.Token.{Token, opening}
+use Rattle.grammar.specs.Token.{Token}
 use Rattle.grammar.specs.Syntax.{none, Rule}
 use Rattle.reading.specs.Part.{Part, formulas, inside, Mode, between, expects, named, complete, State, state, Taken, taken, wrong, on_word, put, next, settle, behind}
-use Rattle.reading.specs.Reader.{size, full, crowded, nodes, variables, limit, long, Judged, going, bad, judge_taken, judge_token}
+use Rattle.reading.specs.Reader.{full, nodes, limit, long, Judged, going, bad, judge_taken, judge_token}
 use Rattle.reading.specs.SizeLaws.{put-nodes, put-variables}
 use Rattle.reading.specs.LimitLaws.{SmallPart, SmallMode, SmallState, SmallTaken, next_small, settle-small}
 use Rattle.nametable.specs.Table.{word}

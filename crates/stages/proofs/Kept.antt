@@ -1,18 +1,16 @@
 -- Variables by first appearance, one by one.
-use Prim.Native.Nat.{ℕ, zero, suc, ◌+◌, ◌-◌, ◌≤◌, ◌<◌}
+use Prim.Native.Nat.{ℕ, zero, suc, ◌+◌, ◌≤◌, ◌<◌}
 use mathlib.Core.Path.{◌≡◌, refl, sym as inv, ap, ap₂, subst, ◌∙◌}
-use mathlib.Core.Bool.{Bool, true, false, true≢false, ◌&&◌}
+use mathlib.Core.Bool.{Bool, true, false}
 use mathlib.Core.List.{List, [], ◌∷◌, ◌++◌}
 use native.Mathlib.Omega.{arith}
 use native.Mathlib.Decide.{dec_lt}
-use lib.ListN.{length, get_or, set, take, drop, length-append, length-set, length-drop}
+use lib.ListN.{length, get_or, set, drop, length-append, length-set, length-drop}
 use lib.Dec.{eqb}
 use lib.Seq.{get_or-set_same, get_or-set_other, length-take-le}
-use borrow.Author.Tests.{eqb-true, ne_eqb}
-use Rattle.terms.specs.When.{◌⇒◌∣◌}
 use Rattle.terms.specs.Cases.{cases}
-use Rattle.grammar.specs.Names.{same_name, place, within, grow, lone, variable_number, with_variable}
-use Rattle.grammar.specs.NameLaws.{Numbers, fresh, known, numbers, same_true, place-within, place-outside}
+use Rattle.grammar.specs.Names.{same_name, place, within, lone, variable_number, with_variable}
+use Rattle.grammar.specs.NameLaws.{same_true, place-within, place-outside}
 use Rattle.nametable.specs.Table.{word}
 use Rattle.stages.specs.Variables.{Variables}
 

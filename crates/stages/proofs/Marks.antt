@@ -1,20 +1,20 @@
 -- What brackets, commas, `:-` and full stops lead to.
-use Prim.Native.Nat.{ℕ, zero, suc, ◌+◌, ◌-◌, ◌≤◌, ◌<◌}
+use Prim.Native.Nat.{ℕ, ◌-◌, ◌<◌}
 use mathlib.Core.Path.{◌≡◌, refl, sym as inv, ap, subst, ◌∙◌}
-use mathlib.Core.Bool.{Bool, true, false, true≢false}
+use mathlib.Core.Bool.{Bool, true, false}
 use mathlib.Core.List.{List, [], ◌∷◌}
 use native.Mathlib.Omega.{arith}
-use lib.ListN.{length, get_or, set, length-set}
+use lib.ListN.{get_or, set, length-set}
 use Rattle.terms.specs.When.{◌⇒◌∣◌}
 use Rattle.grammar.specs.Token.{Token, opening, closing, comma, arrow, stop}
 use Rattle.grammar.specs.Syntax.{none, Formula, Rule}
-use Rattle.reading.specs.Part.{Done, none_yet, and_variable, and_name, Part, formulas, inside, Mode, between, expects, named, complete, State, state, Taken, taken, wrong, filled, comma_may, arrow_may, closed, stopped, rule_of, terms_of, put, next}
-use Rattle.reading.specs.Reader.{size, nodes, variables, Judged, going, bad, judge_taken, judge_token}
+use Rattle.reading.specs.Part.{Done, none_yet, and_variable, and_name, Part, formulas, inside, Mode, between, expects, named, complete, State, state, taken, wrong, filled, comma_may, arrow_may, closed, stopped, rule_of, terms_of, put, next}
+use Rattle.reading.specs.Reader.{size, variables, going, bad, judge_taken, judge_token}
 use Rattle.reading.specs.SizeLaws.{put-nodes, put-variables, done-nodes-of, done-variables-of}
 use Rattle.stages.specs.declared.Mode as M
 use Rattle.stages.specs.declared.Mode.TheVariants.{Between, Expects, Named, Complete}
 use Rattle.stages.specs.declared.Stage.{Stage}
-use Rattle.stages.specs.declared.Judged.TheVariants.{Going, Bad}
+use Rattle.stages.specs.declared.Judged.TheVariants.{Going}
 use Rattle.stages.specs.Stage.{mode_of, is_complete, Settled, Deep, root, level, root_count, raised, Held, expecting, finished, closed_to, opened, After}
 use Rattle.stages.specs.Variables.{Variables}
 use Rattle.stages.proofs.Depths.{top-is, below-is, put-deep, put_count, opened-deep}

@@ -1,25 +1,24 @@
 -- What names and variables lead to.
-use Prim.Native.Nat.{ℕ, zero, suc, ◌+◌, ◌-◌, ◌≤◌, ◌<◌}
-use mathlib.Core.Path.{◌≡◌, refl, sym as inv, ap, subst, ◌∙◌}
+use Prim.Native.Nat.{ℕ, zero, suc, ◌+◌, ◌≤◌, ◌<◌}
+use mathlib.Core.Path.{◌≡◌, refl, sym as inv, ap, ◌∙◌}
 use mathlib.Core.Bool.{Bool, true, false, true≢false, ◌||◌}
-use mathlib.Core.List.{List, [], ◌∷◌}
+use mathlib.Core.List.{List, []}
 use native.Mathlib.Omega.{arith}
-use lib.ListN.{length, get_or}
+use lib.ListN.{length}
 use lib.Dec.{leb, ltb}
 use borrow.Author.Tests.{le-leb, lt-leb, lt-ltb}
 use Rattle.terms.specs.When.{◌⇒◌∣◌}
-use Rattle.terms.specs.Cases.{cases}
-use Rattle.grammar.specs.Token.{Token, name, variable}
-use Rattle.grammar.specs.Syntax.{none, Formula, Rule}
+use Rattle.grammar.specs.Token.{name, variable}
+use Rattle.grammar.specs.Syntax.{Formula, Rule}
 use Rattle.grammar.specs.Names.{variable_number, with_variable}
 use Rattle.grammar.specs.NameLaws.{Numbers, fresh, known, numbers, variable-low}
-use Rattle.reading.specs.Part.{Done, none_yet, and_variable, Part, formulas, inside, Mode, between, expects, named, complete, State, state, Taken, taken, wrong, variable_in, next}
-use Rattle.reading.specs.Reader.{size, full, crowded, nodes, variables, limit, long, Judged, going, bad, sized, judge_taken, judge_token}
+use Rattle.reading.specs.Part.{and_variable, Part, formulas, inside, Mode, named, complete, State, state, Taken, wrong, variable_in, next}
+use Rattle.reading.specs.Reader.{full, crowded, variables, limit, long, going, bad, sized, judge_taken, judge_token}
 use Rattle.reading.specs.LimitLaws.{name-passes}
 use Rattle.stages.specs.declared.Mode as M
 use Rattle.stages.specs.declared.Mode.TheVariants.{Between, Expects, Named, Complete}
 use Rattle.stages.specs.declared.Stage.{Stage}
-use Rattle.stages.specs.declared.Judged.TheVariants.{Going, Bad}
+use Rattle.stages.specs.declared.Judged.TheVariants.{Going}
 use Rattle.stages.specs.Stage as Stage
 use Rattle.stages.specs.Stage.{mode_of, awaits, Settled, Deep, root, level, root_count, raised, Held, with_argument, in_brackets, code, After}
 use Rattle.stages.specs.Variables.{Variables}

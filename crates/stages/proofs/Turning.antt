@@ -1,8 +1,8 @@
 -- From tokens to the pieces of a text.
-use Prim.Native.Nat.{ℕ, zero, suc, ◌+◌, ◌-◌, ◌≤◌, ◌<◌}
+use Prim.Native.Nat.{ℕ, ◌+◌, ◌-◌, ◌≤◌, ◌<◌}
 use mathlib.Core.Path.{◌≡◌, refl, sym as inv, ap, subst, ◌∙◌}
 use mathlib.Core.Bool.{Bool, true, false, true≢false}
-use mathlib.Core.List.{List, [], ◌∷◌}
+use mathlib.Core.List.{List}
 use native.Mathlib.Omega.{arith}
 use lib.ListN.{length}
 use Rattle.grammar.specs.Token.{Token, name, variable, opening, closing, comma, arrow, stop, Piece, token, blank, comment, spelt}
@@ -19,7 +19,7 @@ use Rattle.pieces.specs.declared.Found.TheVariants as F
 use Rattle.stages.specs.declared.Stage.{Stage}
 use Rattle.stages.specs.declared.Judged.{Judged}
 use Rattle.stages.specs.declared.Judged.TheVariants.{Going, Bad}
-use Rattle.stages.specs.Stage.{Settled, Held, halved, After, is_opening_found, Goes, Turned}
+use Rattle.stages.specs.Stage.{Settled, Held, halved, After, is_opening_found, Turned}
 use Rattle.stages.proofs.Holding.{held-settled}
 
 -- A token

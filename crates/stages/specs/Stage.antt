@@ -1,9 +1,9 @@
 -- A state of the reader (crate `reading`) in numbers.
-use Rattle.std.specs.Prelude.{ℕ, zero, suc, ◌+◌, ◌-◌, ◌≤◌, ◌<◌, ◌≡◌, Bool, true, false, List, [], ◌∷◌, length, get_or, set, drop, eqb}
+use Rattle.std.specs.Prelude.{ℕ, zero, suc, ◌+◌, ◌≤◌, ◌<◌, ◌≡◌, Bool, true, false, List, length, get_or, set}
 use Rattle.terms.specs.When.{◌⇒◌∣◌}
-use Rattle.grammar.specs.Token.{Piece, token, blank, comment, spelt}
+use Rattle.grammar.specs.Token.{Piece}
 use Rattle.grammar.specs.Front as Front
-use Rattle.grammar.specs.Syntax.{Formula, Rule}
+use Rattle.grammar.specs.Syntax.{Formula}
 use Rattle.reading.specs.Part as Part
 use Rattle.reading.specs.Part.{Done, Part, formulas, inside, State, state}
 use Rattle.reading.specs.Reader as Reader
