@@ -1,0 +1,6 @@
+use native.Mathlib.Omega.{arith}
+use Rattle.numbers.proofs.Shifts.{ors}
+use Rattle.numbers.proofs.pack.Goals as goal
+
+pub returns : goal.returns
+returns c = ors c.args.code c.args.field c.args.steps (omega arith) (omega arith) (omega arith)
