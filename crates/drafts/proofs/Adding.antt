@@ -1,15 +1,13 @@
 -- One node more.
-use Prim.Native.Nat.{ℕ, zero, suc, ◌+◌, ◌*◌, ◌≤◌, ◌<◌}
+use Prim.Native.Nat.{ℕ, ◌+◌, ◌*◌, ◌≤◌, ◌<◌}
 use mathlib.Core.Path.{◌≡◌, refl, sym as inv, ap, ap₂, subst, ◌∙◌}
-use mathlib.Core.Bool.{Bool, true, false}
+use mathlib.Core.Bool.{true, false}
 use mathlib.Core.List.{List, [], ◌∷◌, ◌++◌}
 use native.Mathlib.Omega.{arith}
-use lib.ListN.{length, take}
+use lib.ListN.{length}
 use lib.Dec.{ltb}
-use Rattle.terms.specs.When.{◌⇒◌∣◌}
 use Rattle.terms.specs.Cases.{cases}
-use Rattle.grammar.specs.Names as Names
-use Rattle.grammar.specs.Names.{Sort, Spot, variable_spot, symbol_spot, place, grow, is_sort, names_after, variable_number, variables_after}
+use Rattle.grammar.specs.Names.{Spot, symbol_spot, grow, is_sort, variables_after}
 use Rattle.grammar.specs.NameLaws.{place-low}
 use Rattle.symbols.specs.declared.Section.{Section}
 use Rattle.symbols.specs.Sections.{part, Holds, next, Apart, before, behind, Numbers}

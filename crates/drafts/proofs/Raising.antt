@@ -1,20 +1,18 @@
 -- One argument more of a symbol that is written, and one node more that is a variable.
-use Prim.Native.Nat.{ℕ, zero, suc, ◌+◌, ◌-◌, ◌*◌, ◌/◌, ◌%◌, ◌≤◌, ◌<◌}
+use Prim.Native.Nat.{ℕ, zero, suc, ◌+◌, ◌*◌, ◌/◌, ◌%◌, ◌≤◌, ◌<◌}
 use mathlib.Core.Path.{◌≡◌, refl, sym as inv, ap, ap₂, subst, ◌∙◌}
 use mathlib.Core.List.{List, [], ◌∷◌, ◌++◌}
 use native.Mathlib.Omega.{arith}
 use lib.ListN.{length, get_or, set, take, drop, length-set, length-drop}
 use lib.Seq.{length-take-le}
-use Rattle.format.specs.Format.{encode, node_records}
 use Rattle.grammar.specs.Names as Names
 use Rattle.grammar.specs.Names.{Sort, Spot, variable_spot, symbol_spot, place, grow, names_after, variable_number, with_variable, variables_after}
-use Rattle.grammar.specs.GrowLaws.{with_symbol, numbered_on}
+use Rattle.grammar.specs.GrowLaws.{with_symbol}
 use Rattle.symbols.specs.declared.Section.{Section}
-use Rattle.symbols.specs.Sections.{part, Holds}
+use Rattle.symbols.specs.Sections.{Holds}
 use Rattle.drafts.specs.declared.Kind.{Kind}
 use Rattle.drafts.specs.declared.Kind.TheVariants.{Constant, Compound, Predicate}
 use Rattle.drafts.specs.declared.Draft.{Draft}
-use Rattle.drafts.specs.Writing.{Wrote}
 use Rattle.drafts.specs.Drafted.{sort_of_kind, Tables, after, bytes_of, weight, section_of, Drafted, AddsVariable, Bracketed}
 use Rattle.drafts.proofs.Nodes.{bytes-append, after-append}
 
