@@ -1,13 +1,13 @@
 -- What a variable adds, and what a closing bracket changes.
-use Prim.Native.Nat.{ℕ, zero, suc, ◌+◌, ◌-◌, ◌*◌, ◌≤◌, ◌<◌}
-use mathlib.Core.Path.{◌≡◌, refl, sym as inv, ap, ap₂, subst, ◌∙◌}
+use Prim.Native.Nat.{ℕ, suc, ◌+◌, ◌-◌, ◌*◌, ◌≤◌, ◌<◌}
+use mathlib.Core.Path.{◌≡◌, refl, sym as inv, ap, subst, ◌∙◌}
 use mathlib.Core.Bool.{true}
 use mathlib.Core.List.{List, [], ◌∷◌, ◌++◌}
 use native.Mathlib.Omega.{arith}
-use lib.ListN.{length, get_or, set, take}
+use lib.ListN.{length, get_or, take}
 use lib.Seq.{take-set-le}
 use Rattle.grammar.specs.Syntax.{Terms, none, Formula}
-use Rattle.grammar.specs.Names.{Spot, variable_spot, symbol_spot, formula_spots, variable_number, with_variable, variables_after}
+use Rattle.grammar.specs.Names.{Spot, variable_spot, symbol_spot, formula_spots, variable_number, variables_after}
 use Rattle.grammar.specs.NameLaws.{variables-append}
 use Rattle.reading.specs.Part.{Done, none_yet, and_variable, and_name, Part, formulas, inside, filled, terms_of, put}
 use Rattle.reading.specs.Reader.{size, nodes, done_variables, formulas_variables, variables}
@@ -15,11 +15,10 @@ use Rattle.reading.specs.SizeLaws.{variables-spots}
 use Rattle.reading.specs.LimitLaws.{SmallPart}
 use Rattle.reading.specs.Draft.{done_spots, formulas_drafts, sort_in, drafts, raise, drafts-count, opened-raised, variable-drafts, closing-formula, closing-argument}
 use Rattle.drafts.specs.declared.Draft.{Draft}
-use Rattle.drafts.specs.Writing.{Wrote}
 use Rattle.drafts.specs.Drafted.{Tables, weight, Drafted, AddsVariable}
 use Rattle.drafts.proofs.Raising.{weight-low, weighs, variable-drafted}
-use Rattle.building.specs.Built.{bumped, Opens, shut, open_at, Built, Nested, Argued, Closed, headed}
-use Rattle.building.proofs.Places.{top-place, top-raised, open_arity, open_room, open_raised}
+use Rattle.building.specs.Built.{bumped, Opens, shut, open_at, Built, Argued, Closed}
+use Rattle.building.proofs.Places.{top-raised, open_arity, open_room, open_raised}
 
 -- The variables of the nodes are those of the part
 

@@ -8,7 +8,7 @@ use Rattle.reading.specs.LimitLaws.{SmallPart}
 use Rattle.reading.specs.Draft.{drafts}
 use Rattle.nametable.specs.Table.{word}
 use Rattle.drafts.specs.declared.Kind.{Kind}
-use Rattle.drafts.specs.declared.Kind.TheVariants.{Constant, Compound, Predicate}
+use Rattle.drafts.specs.declared.Kind.TheVariants.{Compound, Predicate}
 use Rattle.drafts.specs.declared.Draft.{Draft}
 use Rattle.drafts.specs.Drafted.{Tables, weight, Drafted}
 use Rattle.building.specs.declared.Work.{Work}
