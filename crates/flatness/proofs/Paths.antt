@@ -1,5 +1,5 @@
 -- A good flat query by its good flat book: its path stays flat and keeps the symbols of the two, and its run without limits closes.
-use Prim.Native.Nat.{ℕ, suc, ◌+◌, ◌*◌, ◌^◌, ◌≤◌}
+use Prim.Native.Nat.{ℕ, ◌+◌, ◌*◌, ◌^◌, ◌≤◌}
 use native.Mathlib.Nat.{zero-add}
 use mathlib.Core.Path.{◌≡◌, refl, sym as inv, ap, subst, ◌∙◌}
 use mathlib.Core.Logic.{inl, inr}
@@ -15,7 +15,6 @@ use Rattle.search.specs.Next as Next
 use Rattle.search.specs.Run.{run, goal_at, Roomy}
 use Rattle.words.specs.Flat.{flat}
 use Rattle.flat.specs.Flat.{ConstantOf, Flat, FlatGoal, IsFlatBook}
-use Rattle.flat.specs.Flat as Flat
 use Rattle.flat.specs.FlatLaws.{path-flat}
 use Rattle.flat.specs.Formulas.{listed-left, listed-right, listed-map}
 use Rattle.flat.specs.Formulas.{formulas}
@@ -81,6 +80,7 @@ module _ (ps : List Symbol) (cs : List ℕ) where
   terms-flat (var v ∷ e) (terms_var l t) p k = let (r, s) = terms-flat e t p k in (row_var r, s)
   terms-flat (sym (constant c) ∷ e) (terms_constant {n = n} l t) p k = let (r, s) = terms-flat e t p (λ d i. k d (inr i)) in (row_sym {n = n} {s = constant c} {e = e} (rw zero-add r), (k c (inl refl), s))
   terms-flat (sym (compound f a) ∷ e) (terms_compound l x y t) p k = absurd p
+  terms-flat {n = n} (sym (predicate _ _) ∷ e) x9 p k = elim x9 [ ]
 
   formula-flat : {f : Expr} → IsFormula f → PlainNodes f → Predicates (node_uses f) → Constants (node_constants f) → Flat ps cs f
   formula-flat (formula {p = p} {a = a} {e = e} l h t) x u k = let (r, s) = terms-flat e t x k in Flat.flat (u (use_of p a) (inl refl)) r s
@@ -110,6 +110,7 @@ among-predicates u us i = listed-map symbol_of u (distinct same_use us) ((distin
 predicate-used : (s : Symbol) (us : List Use) → Listed s (map symbol_of us) → (u : Use) × Listed u us × (s ≡ symbol_of u)
 predicate-used s (u ∷ us) (inl e) = (u, inl refl, e)
 predicate-used s (u ∷ us) (inr i) = let (v, j, e) = predicate-used s us i in (v, inr j, e)
+predicate-used s [] x' = elim x' [ ]
 
 -- Of a good book and a good query without compound terms
 

@@ -21,6 +21,7 @@ less x (z ∷ l) (inl p) = record { left = l; fewer = refl; stays = λ y. elim [
 less x (z ∷ l) (inr m) =
     let r = less x l m in
     record { left = z ∷ r.left; fewer = ap suc r.fewer; stays = λ y. elim [ inl e ↦ λ n. inl e | inr k ↦ λ n. inr (r.stays y k n) ] }
+less {A = A} x [] x'' = elim x'' [ ]
 
 -- a list without repeats is no longer than one that has its members
 apart-short : {A : Type 0} (a b : List A) → Apart a → ((x : A) → Listed x a → Listed x b) → length a ≤ length b
@@ -45,6 +46,7 @@ module _ {A : Type 0} (same : A → A → Bool) (sound : (x y : A) → same x y 
   listed-among : (x : A) (xs : List A) → Listed x xs → among same x xs ≡ true
   listed-among x (y ∷ xs) (inl e) = simp (complete x y e)
   listed-among x (y ∷ xs) (inr i) = cases (same x y) (λ p. simp p) (λ p. simp p (listed-among x xs i))
+  listed-among x [] x'' = elim x'' [ ]
 
   distinct-listed : (x : A) (xs : List A) → Listed x (distinct same xs) ↔ Listed x xs
   distinct-listed x [] = (λ i. i, λ i. i)
@@ -119,14 +121,17 @@ numbers us = map (λ (u : Use). u.number) us
 listed-used : (u : Use) (us : List Use) → Listed u us → Used u.number u.arity us
 listed-used u (v ∷ us) (inl e) = inl (ap (λ (x : Use). x.number) (inv e), ap (λ (x : Use). x.arity) (inv e))
 listed-used u (v ∷ us) (inr i) = inr (listed-used u us i)
+listed-used u [] x' = elim x' [ ]
 
 listed-number : (u : Use) (us : List Use) → Listed u us → Listed u.number (numbers us)
 listed-number u (v ∷ us) (inl e) = inl (ap (λ (x : Use). x.number) e)
 listed-number u (v ∷ us) (inr i) = inr (listed-number u us i)
+listed-number u [] x' = elim x' [ ]
 
 number-listed : (p : ℕ) (us : List Use) → Listed p (numbers us) → (u : Use) × Listed u us × (u.number ≡ p)
 number-listed p (v ∷ us) (inl e) = (v, inl refl, inv e)
 number-listed p (v ∷ us) (inr i) = let (u, j, e) = number-listed p us i in (u, inr j, e)
+number-listed p [] x' = elim x' [ ]
 
 module _ (us : List Use) (one : OneArity us) where
   same_number : (u v : Use) → Listed u us → Listed v us → u.number ≡ v.number → u ≡ v
