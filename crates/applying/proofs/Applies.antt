@@ -1,15 +1,14 @@
 -- One clause applied: the next goal and answer do not fit, or are held.
 use Prim.Native.Nat.{ℕ, ◌+◌, ◌-◌, ◌≤◌, ◌<◌}
 use native.Mathlib.Omega.{arith}
-use mathlib.Core.Path.{◌≡◌, refl, sym as inv, ap, ◌∙◌, subst}
+use mathlib.Core.Path.{◌≡◌, refl, sym as inv, ◌∙◌, subst}
 use mathlib.Core.Bool.{true}
 use mathlib.Core.List.{List, [], ◌∷◌, ◌++◌}
 use lib.ListN.{length, take, drop}
 use Rattle.terms.specs.Node.{Expr}
 use Rattle.terms.specs.Subst.{Subst, apply, MostGeneral}
 use Rattle.terms.specs.Rename.{rename, Apart}
-use Rattle.terms.specs.Number.{number_all}
-use Rattle.search.specs.Next.{Clause, Goal, Resolved}
+use Rattle.search.specs.Next.{Clause, Goal}
 use Rattle.search.specs.Room.{fits}
 use Rattle.words.specs.Word.{nodes}
 use Rattle.words.specs.Columns.{Only, STACK}

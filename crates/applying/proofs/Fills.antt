@@ -1,10 +1,10 @@
 -- What is written of the next goal and of the next answer, and numbered as one, is held.
-use Prim.Native.Nat.{ℕ, ◌+◌, ◌-◌, ◌≤◌, ◌<◌}
+use Prim.Native.Nat.{ℕ, ◌+◌, ◌≤◌, ◌<◌}
 use native.Mathlib.Omega.{arith}
 use mathlib.Core.Path.{◌≡◌, refl, sym as inv, ap, ap₂, ◌∙◌, subst}
-use mathlib.Core.List.{List, [], ◌∷◌, ◌++◌, map-append}
-use lib.ListN.{length, get_or, take, drop, length-append, length-drop, length-map}
-use lib.Seq.{length-take-le, get_or-take, get_or-drop, take-add, take_at, drop_at, take-take}
+use mathlib.Core.List.{List, [], ◌++◌, map-append}
+use lib.ListN.{length, get_or, take, drop, length-drop, length-map}
+use lib.Seq.{length-take-le, get_or-take, get_or-drop, take-add, take_at, drop_at}
 use Rattle.terms.specs.Node.{Expr}
 use Rattle.terms.specs.Number.{number, seen_after}
 use Rattle.terms.specs.NumberLaws.{number_append, number-length}
@@ -13,7 +13,7 @@ use Rattle.search.specs.Next.{Goal}
 use Rattle.words.specs.Word.{node, nodes, Fit, Fits}
 use Rattle.words.specs.WordLaws.{each_append, nodes-take, nodes-drop}
 use Rattle.words.specs.Flat.{flat}
-use Rattle.words.specs.Held.{FormulasIn, RowIn}
+use Rattle.words.specs.Held.{RowIn}
 use Rattle.numbering.specs.Naming.{Fitting, Numbering}
 use Rattle.applying.specs.Applying.{Wrote}
 

@@ -7,7 +7,6 @@ use mathlib.Core.List.{List, [], ◌∷◌, ◌++◌}
 use lib.ListN.{length, take, drop, length-drop}
 use lib.Seq.{take-take, take-append-le, drop_at, length-take-le, get_or-take}
 use borrow.Rule.Slice.PartMut.{put_mid, take_put}
-use Rattle.terms.specs.Node.{Expr}
 use Rattle.terms.specs.Subst.{apply}
 use Rattle.words.specs.Word.{nodes, Fit, Fits, Valids}
 use Rattle.words.specs.WordLaws.{each_take, each-drop}

@@ -1,19 +1,16 @@
 -- What stands in the words behind a formula and a head that are matched.
-use Prim.Native.Nat.{ℕ, ◌+◌, ◌-◌, ◌≤◌, ◌<◌}
+use Prim.Native.Nat.{ℕ, ◌+◌, ◌-◌, ◌≤◌}
 use native.Mathlib.Omega.{arith}
-use mathlib.Core.Path.{◌≡◌, refl, sym as inv, ap, ap₂, ◌∙◌, subst}
-use mathlib.Core.List.{List, [], ◌∷◌, ◌++◌, map, map-append, append_assoc}
-use lib.ListN.{length, take, drop, length-append, length-drop, length-map}
+use mathlib.Core.Path.{◌≡◌, sym as inv, ap, ap₂, ◌∙◌, subst}
+use mathlib.Core.List.{List, [], ◌∷◌, ◌++◌, map, map-append}
+use lib.ListN.{length, take, drop, length-drop}
 use lib.Seq.{length-take-le, take-take}
 use Rattle.terms.specs.Node.{Expr}
-use Rattle.terms.specs.Subst.{Subst, apply, MostGeneral}
+use Rattle.terms.specs.Subst.{MostGeneral}
 use Rattle.terms.specs.Rename.{rename}
-use Rattle.terms.specs.Number.{number, number_all, seen_after, seen_all}
-use Rattle.terms.specs.NumberLaws.{number-all-length, number-all-append, number-length, seen-append}
-use Rattle.search.specs.Next.{Clause, Goal, resolvent, Resolved}
-use Rattle.search.specs.Room.{nodes as size}
+use Rattle.search.specs.Next.{Clause, Goal}
 use Rattle.words.specs.Word.{node, nodes, Fit, Fits}
-use Rattle.words.specs.Flat.{flat, flat_append, flat-apply, flat-rename, flat-number, flat-size}
+use Rattle.words.specs.Flat.{flat}
 use Rattle.words.specs.Held.{GoalIn, ClauseIn}
 use Rattle.words.specs.WordLaws.{each_append, each-drop, each_take, fits_more}
 use Rattle.words.specs.HeldLaws.{behind-is, first-length, formula_in, headed, head-length, head_in}
@@ -21,9 +18,9 @@ use Rattle.positions.specs.Tables.{SolvedIn, solution_in}
 use Rattle.picking.specs.Laying.{moved}
 use Rattle.picking.specs.Picking.{Matched}
 use Rattle.picking.proofs.Appends.{nodes-moved, fits_moved}
-use Rattle.picking.proofs.Problems.{goal_name, clause_name, names_apart, sides, problem-fits}
+use Rattle.picking.proofs.Problems.{goal_name, clause_name, sides, problem-fits}
 use Rattle.applying.specs.declared.Cut.{Cut}
-use Rattle.applying.specs.Applying.{Built, Stage, Onward}
+use Rattle.applying.specs.Applying.{Built, Stage}
 use Rattle.applying.proofs.Builds.{problem-kept, goal-behind, answer-behind, all_of}
 
 module _ (row clause : List ℕ) (cut : Cut) (f : Expr) (g a : Goal) (c : Clause) (s : Stage row clause cut f g a c) where
