@@ -18,7 +18,6 @@ use Rattle.terms.specs.Number.{place, within, grow, number, number_all}
 use Rattle.terms.specs.NumberLaws.{within-last}
 use Rattle.terms.specs.Argument.{firsts}
 use Rattle.search.specs.Next.{Goal}
-use Rattle.search.specs.Room.{nodes as size}
 use Rattle.words.specs.Word.{Fit, Fits, Valids, node, nodes}
 use Rattle.words.specs.WordLaws.{fits_more, each_append, in_words}
 use Rattle.words.specs.Flat.{flat, flat_append, flat-number, flat-size}
@@ -47,6 +46,7 @@ number_low : (seen : List ℕ) (e : Expr) (v : ℕ) → In v (number seen e) →
 number_low seen (var w ∷ e) v (inl p) = let (a, b) = grown w seen in omega (arith, p, a, b)
 number_low seen (var w ∷ e) v (inr i) = let (a, b) = grown w seen in omega (arith, number_low (grow seen w) e v i, b)
 number_low seen (sym s ∷ e) v i = omega (arith, number_low seen e v i)
+number_low seen [] v i = elim i [ ]
 
 -- Formulas one behind the other are as many rows.
 

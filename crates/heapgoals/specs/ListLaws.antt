@@ -45,15 +45,18 @@ any_append v (e ∷ l) m (inr i) = elim (any_append v l m i) [ inl j ↦ inl (in
 pub any-apply : (θ : Subst) (w : ℕ) (l : Goal) → InAny w (map (apply θ) l) → (v : ℕ) × InAny v l × In w (θ v)
 any-apply θ w (e ∷ l) (inl i) = let (v, j, k) = in-apply w θ e i in (v, inl j, k)
 any-apply θ w (e ∷ l) (inr i) = let (v, j, k) = any-apply θ w l i in (v, inr j, k)
+any-apply θ w [] x' = elim x' [ ]
 
 module _ {b : ℕ} (heap levels : List ℕ) (f : Fits b heap) (v : ℕ) where
   pub listed-low : (k p : ℕ) → InAny v (listed heap k p) → v < b
   listed-low (suc k) p (inl i) = in-row-low heap f 1 p v i
   listed-low (suc k) p (inr i) = listed-low k (p + length (rows heap 1 p)) i
+  listed-low zero p x' = elim x' [ ]
 
   pub waiting-low : (n : ℕ) → InAny v (waiting heap levels n) → v < b
   waiting-low (suc n) i =
       elim (any_append v (listed heap (level_due levels n) (level_at levels n)) (waiting heap levels n) i) [ inl j ↦ listed-low (level_due levels n) (level_at levels n) j | inr j ↦ waiting-low n j ]
+  waiting-low zero i = elim i [ ]
 
 -- what a variable of a low number stands for has low ones
 pub meant-low : {heap cells : List ℕ} (made : Made heap cells) {θ : Subst} (s : Solved heap cells θ) {b : ℕ} → Fits b heap → (v : ℕ) → v < b → (w : ℕ) → In w (θ v) → w < b
