@@ -1,16 +1,14 @@
 -- What each piece changes.
 use Prim.Native.Nat.{ℕ, ◌+◌}
 use mathlib.Core.Path.{◌≡◌, refl, sym as inv, ap, ap₂, ◌∙◌}
-use mathlib.Core.Bool.{Bool, true, false, not}
+use mathlib.Core.Bool.{Bool, true, false}
 use mathlib.Core.List.{List}
-use lib.Dec.{ltb, eqb}
+use lib.Dec.{ltb}
 use borrow.Author.Tests.{eq-eqb, ne_eqb}
-use Rattle.terms.specs.When.{◌⇒◌∣◌}
 use Rattle.pieces.specs.declared.Found.{Found}
 use Rattle.halfway.specs.declared.Mode.{Mode}
 use Rattle.halfway.specs.declared.Stage.{Stage}
 use Rattle.pieces.specs.declared.Found.TheVariants as F
-use Rattle.halfway.specs.declared.Judged.{Judged}
 use Rattle.halfway.specs.declared.Judged.TheVariants.{Going, Bad}
 use Rattle.halfway.specs.declared.Ended.TheVariants.{Fine, Refused}
 use Rattle.halfway.specs.Machine.{may_end}
