@@ -11,7 +11,7 @@ use Rattle.nametable.specs.Table.{word}
 use Rattle.printing.specs.Named.{digits, variable_name}
 use Rattle.namelist.specs.List.{Entry, naming}
 use Rattle.namelist.specs.ListLaws.{Stands, NamesIt}
-use Rattle.printouts.specs.Laying.{up, lay, reach, Lays, lays-none, lays-then}
+use Rattle.printouts.specs.Laying.{up, lay, Lays, lays-none, lays-then}
 
 pub store_out : (area : List ℕ) (at b : ℕ) → length area ≤ at → area ≡ set area at b
 store_out area at b h = inv (set_out area at b h)

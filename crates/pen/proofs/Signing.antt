@@ -1,6 +1,6 @@
 -- What stands before a formula, and behind a clause.
 use Prim.Native.Nat.{ℕ}
-use mathlib.Core.Path.{◌≡◌, refl, sym as inv, subst}
+use mathlib.Core.Path.{◌≡◌, sym as inv, subst}
 use mathlib.Core.List.{List, [], ◌∷◌}
 use borrow.Author.Tests.{eq-eqb, ne_eqb}
 use lib.Dec.{eqb}
