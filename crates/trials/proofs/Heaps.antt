@@ -1,14 +1,14 @@
 -- A row, and behind it a clause whose variables are moved past those of the row: what stands where on the heap.
-use Prim.Native.Nat.{ℕ, zero, suc, ◌+◌, ◌-◌, ◌<◌, ◌≤◌}
+use Prim.Native.Nat.{ℕ, zero, suc, ◌+◌, ◌<◌, ◌≤◌}
 use native.Mathlib.Omega.{arith}
 use mathlib.Core.Path.{◌≡◌, refl, sym as inv, ap, ap₂, ◌∙◌, subst}
 use mathlib.Core.Logic.{inl, inr}
 use mathlib.Core.List.{List, [], ◌∷◌, ◌++◌, map, map-append, append_assoc, append-nil}
-use lib.ListN.{length, get_or, take, drop, length-append, length-map, length-drop, take-append-drop}
+use lib.ListN.{length, take, drop, length-append, length-map, length-drop, take-append-drop}
 use lib.Seq.{drop_at, drop-append-le, length-take-le}
 use Rattle.terms.specs.Node.{var, sym, Expr}
 use Rattle.terms.specs.Row.{Row, row_end, row_var, row_sym, span, Formulas}
-use Rattle.terms.specs.RowLaws.{row-append, row_cons, row-long, row-split, first-row}
+use Rattle.terms.specs.RowLaws.{row-append, row_cons, row-split, first-row}
 use Rattle.terms.specs.Subst.{In, InAny, Subst, Unifies, MostGeneral}
 use Rattle.terms.specs.SubstLaws.{in_left, in_right}
 use Rattle.terms.specs.Rename.{rename, Apart}
@@ -23,7 +23,7 @@ use Rattle.words.specs.Held.{RowIn, ClauseIn}
 use Rattle.picking.specs.Laying.{moved}
 use Rattle.picking.proofs.Appends.{row_fits, nodes-moved, fits_moved}
 use Rattle.picking.proofs.Problems.{in-flat}
-use Rattle.heap.specs.Heap.{rows, Whole, bound, Made}
+use Rattle.heap.specs.Heap.{rows, Whole, Made}
 use Rattle.matching.specs.Unifying.{Low}
 use Rattle.matching.specs.TrialLaws.{Free}
 
@@ -195,6 +195,7 @@ module _ (row clause : List ℕ) (w n k b : ℕ) (f : Expr) (g a : Goal) (c : Cl
   any-front : (v : ℕ) (l m : Goal) → InAny v l → InAny v (l ++ m)
   any-front v (e ∷ l) m (inl i) = inl i
   any-front v (e ∷ l) m (inr i) = inr (any-front v l m i)
+  any-front v [] m x' = elim x' [ ]
 
   pub apart-near : Apart own_name past_name (f ∷ g) (c.head ∷ c.body)
   apart-near = record { left = λ v x i j e. e; right = λ v x i j e. omega (arith, e); shared = λ v x i j e. omega (arith, e, in_row v (any-front v (f ∷ g) a i)) }

@@ -1,17 +1,15 @@
 -- No variable is bound any more.
-use Prim.Native.Nat.{ℕ, suc, ◌+◌, ◌-◌, ◌<◌, ◌≤◌}
+use Prim.Native.Nat.{ℕ, suc, ◌+◌, ◌<◌, ◌≤◌}
 use native.Mathlib.Omega.{arith}
 use native.Mathlib.Decide.{ℕ_discrete, dec_lt}
 use mathlib.Core.Path.{◌≡◌, refl, sym as inv, ap, ◌∙◌, subst}
 use mathlib.Core.List.{List, ◌++◌}
-use lib.ListN.{length, get_or, set, take, drop, length-drop, get_or-eq_default}
+use lib.ListN.{length, set, take, drop, length-drop, get_or-eq_default}
 use lib.Seq.{get_or-set_same, get_or-set_other, length-take-le, take_at, drop_at}
-use Rattle.terms.specs.Subst.{Subst, Unifies, itself}
-use Rattle.heap.specs.Heap.{rows, bound, Made, Solved, Solves}
-use Rattle.matching.specs.Meeting.{Equal}
+use Rattle.heap.specs.Heap.{bound}
 use Rattle.matching.specs.Binding.{Trailed, trail-none}
 use Rattle.matching.specs.Unifying.{Low, Begun, More, TrailKept}
-use Rattle.matching.specs.TrialLaws.{Free, free-solved, trial-fits, trial-clashes}
+use Rattle.matching.specs.TrialLaws.{Free, trial-fits}
 use Rattle.matching.specs.declared.unifying.Trial.{Trial}
 use Rattle.trials.specs.Trying.{trail, Undoable, Fitted}
 use borrow.Rule.Slice.PartMut.{put_mid}

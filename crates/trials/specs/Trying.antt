@@ -12,7 +12,6 @@ use Rattle.matching.specs.TrialLaws.{Free}
 use Rattle.trials.specs.declared.Attempt.{Attempt}
 use Rattle.trials.specs.declared.Attempt.TheVariants.{Fits, Clash, Tired}
 use Rattle.trials.specs.declared.Found.{Found}
-use Rattle.trials.specs.declared.Found.TheVariants as Found
 
 -- where the trail stands in the slice of tables: numbering leaves it alone
 abbrev pub trail : List ℕ → List ℕ
