@@ -1,16 +1,15 @@
 -- A name that waited for its bracket: it has one, or it stands alone.
-use Prim.Native.Nat.{ℕ, zero, suc, ◌+◌, ◌-◌, ◌*◌, ◌≤◌, ◌<◌}
-use mathlib.Core.Path.{◌≡◌, refl, sym as inv, ap, ap₂, subst, ◌∙◌}
-use mathlib.Core.Bool.{Bool, true, false, true≢false}
-use mathlib.Core.List.{List, [], ◌∷◌, ◌++◌}
+use Prim.Native.Nat.{ℕ, zero, suc, ◌+◌, ◌≤◌, ◌<◌}
+use mathlib.Core.Path.{◌≡◌, refl, sym as inv, ap, subst, ◌∙◌}
+use mathlib.Core.Bool.{true, false, true≢false}
+use mathlib.Core.List.{List}
 use native.Mathlib.Omega.{arith}
-use lib.ListN.{length, take}
-use Rattle.grammar.specs.Token.{Token, opening, Piece, token}
-use Rattle.grammar.specs.Front as Front
+use lib.ListN.{length}
+use Rattle.grammar.specs.Token.{opening, Piece, token}
 use Rattle.grammar.specs.Front.{front}
 use Rattle.grammar.specs.Syntax.{none, Rule}
 use Rattle.grammar.specs.Names.{variable_number}
-use Rattle.reading.specs.Part.{Done, none_yet, Part, formulas, inside, Mode, named, complete, expects, State, state, put, next, settle}
+use Rattle.reading.specs.Part.{none_yet, Part, formulas, inside, Mode, named, complete, expects, State, state, put, next, settle}
 use Rattle.reading.specs.Reader.{nodes, variables, going, judge_taken, judge_token, judge}
 use Rattle.reading.specs.SizeLaws.{put-variables}
 use Rattle.reading.specs.LimitLaws.{SmallState, settle-small}
@@ -22,17 +21,16 @@ use Rattle.nametable.specs.Table.{word}
 use Rattle.stages.specs.declared.Mode as M
 use Rattle.stages.specs.declared.Mode.TheVariants.{Between, Expects, Named, Complete}
 use Rattle.stages.specs.declared.Stage.{Stage}
-use Rattle.stages.specs.Stage.{mode_of, Settled, Deep, root, level, root_count, grown, NameInside, Held, is_opening_found}
+use Rattle.stages.specs.Stage.{mode_of, Settled, Deep, root, level, grown, NameInside, Held, is_opening_found}
 use Rattle.stages.proofs.Depths.{put_count}
-use Rattle.stages.proofs.Holding.{named-nodes, formulas-low, held-settled}
+use Rattle.stages.proofs.Holding.{named-nodes, held-settled}
 use Rattle.stages.proofs.Kept.{word-long}
 use Rattle.stages.proofs.Turning.{opening_piece, opening_front, front-opening, judge-settled, is_bracket}
 use Rattle.drafts.specs.declared.Draft.{Draft}
-use Rattle.drafts.specs.Drafted.{Tables}
 use Rattle.building.specs.declared.Work.{Work}
 use Rattle.building.specs.Built.{Built, Ready, Opened, Alone}
 use Rattle.reader.specs.declared.Turn.{Turn}
-use Rattle.reader.specs.Kept.{tables_of, done_bytes, levels, Kept, Numbered, Sofar, Step, Stepped, Turning, waits}
+use Rattle.reader.specs.Kept.{tables_of, levels, Kept, Numbered, Sofar, Step, Turning, waits}
 use Rattle.reader.proofs.Stepping.{kept-sofar, put-levels}
 
 deep-levels : {counts : List ℕ} (p : Part) (k : ℕ) → Deep counts p k → k ≡ levels p

@@ -1,34 +1,25 @@
 -- What each piece adds to what is held.
-use Prim.Native.Nat.{ℕ, zero, suc, ◌+◌, ◌-◌, ◌*◌, ◌≤◌, ◌<◌}
-use mathlib.Core.Path.{◌≡◌, refl, sym as inv, ap, ap₂, subst, ◌∙◌}
-use mathlib.Core.Bool.{true}
-use mathlib.Core.List.{List, [], ◌∷◌, ◌++◌}
+use Prim.Native.Nat.{ℕ, ◌+◌, ◌-◌, ◌≤◌}
+use mathlib.Core.Path.{◌≡◌, refl, sym as inv, ap, subst, ◌∙◌}
+use mathlib.Core.List.{List}
 use native.Mathlib.Omega.{arith}
-use lib.ListN.{length, get_or, set, take, drop, length-append, length-set}
+use lib.ListN.{length, drop}
 use lib.Seq.{length-take-le}
-use Rattle.grammar.specs.Token.{Token, name, variable, opening, closing, comma, arrow, stop, Piece, token, blank, comment}
-use Rattle.grammar.specs.Front as Front
+use Rattle.grammar.specs.Token.{Token, variable, opening, closing, Piece, token}
 use Rattle.grammar.specs.Front.{front, broken, unexpected}
-use Rattle.grammar.specs.Syntax.{none, Formula, Rule}
-use Rattle.grammar.specs.Names.{Spot, rule_spots, variable_number}
-use Rattle.reading.specs.Part.{Done, and_variable, Part, formulas, inside, Mode, State, state, filled, rule_of, terms_of, put, settle}
-use Rattle.reading.specs.Reader.{nodes, variables, going, judge}
+use Rattle.grammar.specs.Syntax.{none, Rule}
+use Rattle.grammar.specs.Names.{variable_number}
+use Rattle.reading.specs.Part.{and_variable, Part, formulas, inside, Mode, State, state, terms_of, put, settle}
+use Rattle.reading.specs.Reader.{variables, going, judge}
 use Rattle.reading.specs.LimitLaws.{SmallState}
-use Rattle.reading.specs.Draft.{drafts, stop-drafts}
 use Rattle.pieces.specs.Found as Found
 use Rattle.pieces.specs.Found.{front_at}
 use Rattle.pieces.specs.declared.Found.{Found}
 use Rattle.pieces.specs.declared.Found.TheVariants as F
-use Rattle.symbols.specs.declared.Section.{Section}
-use Rattle.symbols.specs.Sections.{part, Holds}
-use Rattle.drafts.specs.declared.Kind.{Kind}
-use Rattle.drafts.specs.declared.Kind.TheVariants.{Constant, Compound, Predicate}
 use Rattle.drafts.specs.declared.Draft.{Draft}
-use Rattle.drafts.specs.Drafted.{sort_of_kind, Tables, after, bytes_of, section_of, Drafted}
-use Rattle.building.specs.Built.{shut, Built, Nested, Argued, Closed, headed}
-use Rattle.building.proofs.Arguments.{len_most}
+use Rattle.building.specs.Built.{Built, Nested, Argued, Closed}
 use Rattle.reader.specs.Effect.{Stays, Effect, stays, argues, closes, stops, effect}
-use Rattle.reader.specs.Kept.{tables_of, done_bytes, levels, Kept, Numbered, Sofar, Step, Steps, ended}
+use Rattle.reader.specs.Kept.{tables_of, levels, Kept, Numbered, Sofar, Step}
 
 -- What stays
 

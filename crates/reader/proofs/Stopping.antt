@@ -1,17 +1,16 @@
 -- A full stop: the rule is put behind those that are read.
-use Prim.Native.Nat.{ℕ, zero, suc, ◌+◌, ◌-◌, ◌*◌, ◌≤◌, ◌<◌}
+use Prim.Native.Nat.{ℕ, zero, suc, ◌+◌, ◌-◌, ◌≤◌, ◌<◌}
 use mathlib.Core.Path.{◌≡◌, refl, sym as inv, ap, ap₂, subst, ◌∙◌}
 use mathlib.Core.List.{List, [], ◌∷◌, ◌++◌}
 use native.Mathlib.Omega.{arith}
-use lib.ListN.{length, get_or, set, take, drop, length-set}
+use lib.ListN.{length, set, take, drop, length-set}
 use lib.Seq.{length-take-le}
 use Rattle.grammar.specs.Token.{stop, token}
 use Rattle.grammar.specs.Syntax.{Formula, Rule}
 use Rattle.grammar.specs.Names.{Spot, rule_spots}
-use Rattle.reading.specs.Part.{Part, formulas, Mode, State, state, rule_of}
-use Rattle.reading.specs.Reader.{nodes}
+use Rattle.reading.specs.Part.{formulas, Mode, State, state, rule_of}
 use Rattle.reading.specs.LimitLaws.{SmallState}
-use Rattle.reading.specs.Draft.{drafts, stop-drafts}
+use Rattle.reading.specs.Draft.{stop-drafts}
 use Rattle.stages.specs.Stage.{root_count}
 use Rattle.pieces.specs.declared.Found.{Found}
 use Rattle.pieces.specs.declared.Found.TheVariants as F
@@ -20,8 +19,8 @@ use Rattle.symbols.specs.Sections.{part, Holds}
 use Rattle.drafts.specs.declared.Kind.{Kind}
 use Rattle.drafts.specs.declared.Kind.TheVariants.{Constant, Compound, Predicate}
 use Rattle.drafts.specs.declared.Draft.{Draft}
-use Rattle.drafts.specs.Drafted.{sort_of_kind, Tables, after, bytes_of, section_of, Drafted}
-use Rattle.building.specs.Built.{shut, Built, headed}
+use Rattle.drafts.specs.Drafted.{sort_of_kind, after, bytes_of, section_of}
+use Rattle.building.specs.Built.{shut, headed}
 use Rattle.building.proofs.Arguments.{len_most}
 use Rattle.reader.specs.Effect.{Effect, stays, stops, effect}
 use Rattle.reader.specs.Kept.{tables_of, done_bytes, Kept, Sofar, Step, ended}

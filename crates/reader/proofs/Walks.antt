@@ -1,10 +1,10 @@
 -- One pass over a text.
-use Prim.Native.Nat.{ℕ, zero, suc, ◌+◌, ◌-◌, ◌*◌, ◌≤◌, ◌<◌}
+use Prim.Native.Nat.{ℕ, zero, suc, ◌+◌, ◌-◌, ◌≤◌, ◌<◌}
 use mathlib.Core.Path.{◌≡◌, refl, sym as inv, ap, ap₂, subst, ◌∙◌}
-use mathlib.Core.Bool.{Bool, true, false, true≢false}
-use mathlib.Core.List.{List, [], ◌∷◌, ◌++◌}
+use mathlib.Core.Bool.{Bool, true, false}
+use mathlib.Core.List.{List, [], ◌∷◌}
 use native.Mathlib.Omega.{arith}
-use lib.ListN.{length, get_or, take, drop, length-drop, length-append}
+use lib.ListN.{length, drop, length-drop, length-append}
 use lib.Seq.{length-take-le}
 use Rattle.grammar.specs.Token.{Token, name, variable, opening, closing, comma, arrow, stop, Piece, token, blank, comment, spelt}
 use Rattle.grammar.specs.Front as Front
@@ -12,7 +12,7 @@ use Rattle.grammar.specs.Front.{front, broken, unexpected, front_of}
 use Rattle.grammar.specs.Syntax.{Rule}
 use Rattle.grammar.specs.Names.{rule_spots, variable_number}
 use Rattle.grammar.specs.NameLaws.{Numbers, fresh, known, numbers}
-use Rattle.reading.specs.Part.{none_yet, Part, formulas, inside, rule_of, Mode, between, expects, named, complete, State, state, start, Taken, taken, wrong, next, settle, rules_of, is_opening}
+use Rattle.reading.specs.Part.{none_yet, Part, formulas, inside, rule_of, Mode, between, expects, named, complete, State, state, start, Taken, taken, wrong, next, settle, is_opening}
 use Rattle.reading.specs.Reader as Reader
 use Rattle.reading.specs.Reader.{variables, limit, long, going, bad, judge_taken, judge_token, judge, Outcome, read, refused, ended, go_on, from_front, walk}
 use Rattle.reading.specs.Whole.{Healthy, HealthyTaken, next-healthy, settle-healthy}
@@ -27,16 +27,16 @@ use Rattle.stages.specs.declared.Judged.{Judged}
 use Rattle.stages.specs.declared.Judged.TheVariants as J
 use Rattle.stages.specs.Stage.{mode_of, root, Held, Goes, Turned}
 use Rattle.stages.specs.Variables.{Variables}
-use Rattle.stages.proofs.Turning.{opening_piece, judge-settled}
+use Rattle.stages.proofs.Turning.{judge-settled}
 use Rattle.drafts.specs.declared.Draft.{Draft}
 use Rattle.drafts.specs.Drafted.{bytes_of}
 use Rattle.reader.specs.declared.Turn.{Turn}
 use Rattle.reader.specs.declared.walking.Ended.{Ended}
-use Rattle.reader.specs.declared.walking.Ended.TheVariants.{Refused, Read}
+use Rattle.reader.specs.declared.walking.Ended.TheVariants.{Refused}
 use Rattle.reader.specs.Effect.{Effect, stays, argues, closes, stops, effect}
-use Rattle.reader.specs.Kept.{tables_of, done_bytes, Kept, Numbered, Sofar, Turning, BuiltOn}
+use Rattle.reader.specs.Kept.{tables_of, done_bytes, Numbered, Sofar, Turning, BuiltOn}
 use Rattle.pieces.specs.Found.{end_of}
-use Rattle.reader.specs.Walking.{starting, ends, whole, Rules, Ends, Grown, Going}
+use Rattle.reader.specs.Walking.{starting, ends, whole, Ends, Grown, Going}
 
 -- Rules only grow
 

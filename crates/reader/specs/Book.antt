@@ -1,17 +1,14 @@
 -- The bytes that are written rule by rule, numbered by the names so far, are those of the book (grammar, Names).
-use Rattle.std.specs.Prelude.{ℕ, suc, ◌+◌, ◌≡◌, refl, List, [], ◌∷◌, ◌++◌, map, length}
+use Rattle.std.specs.Prelude.{ℕ, suc, ◌≡◌, refl, List, [], ◌∷◌, ◌++◌, map, length}
 use Rattle.std.proofs.Common.{sym as inv, ap, ap₂, ◌∙◌, append_assoc, append-nil, arith}
 use Rattle.terms.specs.Node.{Expr, var, sym}
-use Rattle.search.specs.Next as Next
-use Rattle.words.specs.Flat.{flat}
-use Rattle.format.specs.Format.{encode_record, encode, node_records, book_records, encode_book}
-use Rattle.format.specs.declared.Record.{Record}
+use Rattle.format.specs.Format.{encode, node_records, book_records, encode_book}
 use Rattle.grammar.specs.Syntax.{Formula, Rule}
 use Rattle.grammar.specs.Names.{Sort, Spot, variable_spot, symbol_spot, formula_spots, rule_spots, text_spots, place, names_after, variable_number, with_variable, variables_after, symbol_for, numbered, numbered_all, clause, names, book}
 use Rattle.grammar.specs.NameLaws.{numbered-length, flat-numbered}
 use Rattle.grammar.specs.GrowLaws.{numbered_on, numbered-grows, with_symbol}
 use Rattle.reading.specs.Part.{rules_of}
-use Rattle.drafts.specs.Drafted.{Tables, after, bytes_of}
+use Rattle.drafts.specs.Drafted.{Tables, after}
 use Rattle.drafts.proofs.Nodes.{names-append, encode-append, on-append}
 use Rattle.reader.specs.Kept.{tables_of, done_bytes}
 

@@ -1,11 +1,11 @@
 -- What a token does to the rules that are read and to the one that is read in part, where no name waits for its bracket.
-use Rattle.std.specs.Prelude.{ℕ, zero, suc, ◌+◌, ◌≤◌, ◌<◌, ◌≡◌, refl, Bool, true, false, List, [], ◌∷◌}
-use Rattle.std.proofs.Common.{sym as inv, ap, subst, ◌∙◌, true≢false, arith}
+use Rattle.std.specs.Prelude.{ℕ, zero, suc, ◌≤◌, ◌≡◌, refl, Bool, true, false, List, [], ◌∷◌}
+use Rattle.std.proofs.Common.{ap, subst, arith}
 use Rattle.terms.specs.Cases.{cases}
 use Rattle.grammar.specs.Token.{Token, name, variable, opening, closing, comma, arrow, stop}
 use Rattle.grammar.specs.Syntax.{none, Formula, Rule}
 use Rattle.reading.specs.Part.{Done, and_variable, Part, formulas, inside, Mode, between, expects, named, complete, State, state, Taken, taken, wrong, filled, comma_may, arrow_may, rule_of, terms_of, put, next, settle}
-use Rattle.reading.specs.Reader.{nodes, limit, long, Judged, going, bad, judge_taken, judge_token}
+use Rattle.reading.specs.Reader.{nodes, limit, long, going, judge_taken, judge_token}
 use Rattle.reading.specs.LimitLaws.{variable-passes}
 
 abbrev pub Stays : Token → Type 0

@@ -1,9 +1,9 @@
 -- The rules that are read, and the one that is read in part, as the program holds them.
-use Rattle.std.specs.Prelude.{ℕ, zero, suc, ◌+◌, ◌-◌, ◌≤◌, ◌<◌, ◌≡◌, Bool, true, false, List, [], ◌∷◌, ◌++◌, length, take}
+use Rattle.std.specs.Prelude.{ℕ, suc, ◌+◌, ◌≤◌, ◌<◌, ◌≡◌, Bool, true, false, List, [], ◌∷◌, ◌++◌, length, take}
 use Rattle.grammar.specs.Token.{Piece}
 use Rattle.grammar.specs.Front as Front
 use Rattle.grammar.specs.Syntax.{Rule}
-use Rattle.grammar.specs.Names.{rule_spots, text_spots, names_after, variable_number}
+use Rattle.grammar.specs.Names.{rule_spots, variable_number}
 use Rattle.reading.specs.Part.{Part, formulas, inside, State, settle}
 use Rattle.reading.specs.LimitLaws.{SmallState}
 use Rattle.reading.specs.Reader as Reader

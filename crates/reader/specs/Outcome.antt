@@ -1,17 +1,16 @@
 -- What the pass over a text ends with is what the definition reads it as (reading, Reader).
-use Rattle.std.specs.Prelude.{ℕ, suc, ◌+◌, ◌≤◌, ◌<◌, ◌≡◌, refl, List, [], ◌∷◌, ◌++◌, length, take, ltb}
+use Rattle.std.specs.Prelude.{ℕ, ◌+◌, ◌≤◌, ◌<◌, ◌≡◌, refl, List, [], ◌∷◌, ◌++◌, length, take}
 use Rattle.std.proofs.Common.{sym as inv, ap, ◌∙◌, arith, length-append, length-take-le, lt-ltb, le-ltb}
 use Rattle.format.specs.Format.{encode_book}
 use Rattle.grammar.specs.Syntax.{Rule}
-use Rattle.grammar.specs.Names.{Sort, book, names}
-use Rattle.reading.specs.Part.{formulas, between, state, rules_of}
-use Rattle.reading.specs.Reader as Reader
-use Rattle.reading.specs.Reader.{Outcome, read, refused, fitting, reading}
+use Rattle.grammar.specs.Names.{book}
+use Rattle.reading.specs.Part.{rules_of}
+use Rattle.reading.specs.Reader.{read, refused, fitting, reading}
 use Rattle.drafts.specs.declared.Draft.{Draft}
 use Rattle.reader.specs.declared.walking.Ended.TheVariants.{Refused, Read}
-use Rattle.reader.specs.Kept.{tables_of, done_bytes, Kept, Sofar}
-use Rattle.reader.specs.Walking.{whole, Rules, Ends}
-use Rattle.reader.specs.Book.{tables-are, done-book}
+use Rattle.reader.specs.Kept.{done_bytes}
+use Rattle.reader.specs.Walking.{whole, Ends}
+use Rattle.reader.specs.Book.{done-book}
 
 reading-whole : (text : List ℕ) → length text ≤ 65536 → reading text ≡ fitting (length text) (whole text)
 unfolding reading

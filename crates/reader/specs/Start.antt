@@ -1,14 +1,12 @@
 -- Storage in which nothing is held yet: its lengths, and heads of chains that are all 0.
-use Rattle.std.specs.Prelude.{ℕ, zero, suc, ◌+◌, ◌≤◌, ◌<◌, ◌≡◌, refl, List, [], ◌∷◌, length, get_or, take, drop}
-use Rattle.std.proofs.Common.{sym as inv, ap, ◌∙◌, arith}
+use Rattle.std.specs.Prelude.{ℕ, zero, suc, ◌<◌, ◌≡◌, refl, List, [], ◌∷◌, length, get_or, take, drop}
+use Rattle.std.proofs.Common.{arith}
 use Rattle.nametable.specs.Table.{Table}
-use Rattle.symbols.specs.Sections.{part, Holds}
+use Rattle.symbols.specs.Sections.{Holds}
 use Rattle.drafts.specs.declared.Kind.{Kind}
 use Rattle.drafts.specs.declared.Kind.TheVariants.{Constant, Compound, Predicate}
 use Rattle.drafts.specs.Drafted.{section_of}
 use Rattle.building.specs.Built.{shut}
-use Rattle.reading.specs.Part.{start}
-use Rattle.reader.specs.Kept.{Kept}
 use Rattle.reader.specs.Walking.{blank, Empty}
 
 abbrev pub Zeros : List ℕ → Type 0

@@ -1,12 +1,10 @@
 -- One pass over a text, piece by piece.
-use Rattle.std.specs.Prelude.{ℕ, zero, suc, ◌+◌, ◌-◌, ◌≤◌, ◌<◌, ◌≡◌, List, [], length, drop}
+use Rattle.std.specs.Prelude.{ℕ, suc, ◌-◌, ◌≤◌, ◌<◌, ◌≡◌, List, [], length, drop}
 use Rattle.grammar.specs.Syntax.{Rule}
 use Rattle.reading.specs.Part.{formulas, between, State, state, start, rules_of}
 use Rattle.reading.specs.Reader as Reader
 use Rattle.reading.specs.Whole.{Healthy}
 use Rattle.reading.specs.Reader.{Outcome, walk}
-use Rattle.pieces.specs.declared.Found.{Found}
-use Rattle.pieces.specs.declared.Found.TheVariants as F
 use Rattle.stages.specs.declared.Mode.{Mode}
 use Rattle.stages.specs.declared.Mode.TheVariants.{Between, Expects, Named, Complete}
 use Rattle.stages.specs.declared.Stage.{Stage}
