@@ -1,11 +1,10 @@
 -- The whole answer.
-use Prim.Native.Nat.{ℕ, zero, suc, ◌+◌, ◌-◌, ◌≤◌, ◌<◌}
-use mathlib.Core.Path.{◌≡◌, refl, sym as inv, ap, ap₂, ◌∙◌, subst}
+use Prim.Native.Nat.{ℕ, ◌≤◌, ◌<◌}
+use mathlib.Core.Path.{◌≡◌, refl, sym as inv, ap, ◌∙◌, subst}
 use mathlib.Core.Logic.{inl, inr}
-use mathlib.Core.Bool.{Bool, true, false, not}
+use mathlib.Core.Bool.{Bool, true, false}
 use mathlib.Core.List.{List, [], ◌∷◌, ◌++◌, append-nil}
 use native.Mathlib.Omega.{arith}
-use borrow.Author.Tests.{not-true, not-false}
 use lib.ListN.{length, drop}
 use Rattle.terms.specs.Node.{constant, compound, predicate, var, sym, Expr}
 use Rattle.terms.specs.When.{◌⇒◌∣◌}
@@ -14,13 +13,13 @@ use Rattle.search.specs.Room.{nodes}
 use Rattle.words.specs.Flat.{flat, flat-size}
 use Rattle.format.specs.declared.Check.{Check}
 use Rattle.format.specs.declared.Record.{Record}
-use Rattle.format.specs.Format.{encode, node_records, book_records, goal_records, encode_book, encode_goal, AreFormulas, GoodBook, GoodGoal, Bytes}
+use Rattle.format.specs.Format.{encode, node_records, book_records, goal_records, encode_goal, AreFormulas, GoodGoal, Bytes}
 use Rattle.format.specs.Reading.{book_verdict, query_verdict}
 use Rattle.format.specs.Decode.{book_of, goal_of}
 use Rattle.format.proofs.Decoding.{records-back, book_of-good, goal_of-good}
-use Rattle.printing.specs.Named.{Naming, printed, printed_goal}
+use Rattle.printing.specs.Named.{printed, printed_goal}
 use Rattle.printing.specs.Renumbered.{book_nodes}
-use Rattle.namelist.specs.List.{Entry, IsList, naming}
+use Rattle.namelist.specs.List.{Entry, naming}
 use Rattle.namelist.specs.ListLaws.{Stands}
 use Rattle.namelist.specs.Bytes.{is_list, entries_of}
 use Rattle.namelist.specs.Meaning.{list-means, list-stands}
@@ -33,38 +32,38 @@ use Rattle.printouts.specs.Laying.{Lays, reach, lay-front, measured, over_long}
 use Rattle.printouts.specs.Outcome.{refusal, done, outcome, outcome_area, print_answer, print_area, goal_answer, goal_area}
 use Rattle.printouts.specs.Answer.{answer_verdict, found_answer, found_area}
 use Rattle.printouts.specs.AnswerLaws.{GoodFound, found-good}
-use Rattle.printouts.specs.OutcomeLaws.{Is, is-not-good, is-no-list, is-no-name, is-no-room, is-printed, long-is, short-is}
+use Rattle.printouts.specs.OutcomeLaws.{is-not-good, is-no-list, is-no-name, is-no-room, is-printed, long-is, short-is}
 use Rattle.printer.specs.Parts.{items, records_named, Checked, Suited, PrintsImage}
 
 pub checked : (names : List ℕ) (t : Bool) → Bytes names → t ≡ is_list names → Checked names t
 checked names t bytes e = record { answer = e; stands = λ f. list-stands names (entries_of names) (list-means names bytes (inv e ∙ f)) }
 
-pub listed_by : (names : List ℕ) (t : Bool) → Checked names t → not t ≡ false → (l : List Entry) × Stands names 0 l
-listed_by names t c good = (entries_of names, c.stands (not-false t good))
+pub listed_by : (names : List ℕ) (t : Bool) → Checked names t → t ≡ true → (l : List Entry) × Stands names 0 l
+listed_by names t c good = (entries_of names, c.stands good)
 
 module _ (image names area : List ℕ) (t : Bool) (c : Checked names t) where
-  pub image-list : (r : Printout) → not t ≡ true → r ≡ refusal 45 0 → PrintsImage image names area area r
-  image-list r f e = subst (PrintsImage image names area area) (inv e) (record { is = λ found x text s. is-no-list found x text names area s.good (inv c.answer ∙ not-true t f) })
+  pub image-list : (r : Printout) → t ≡ false → r ≡ refusal 45 0 → PrintsImage image names area area r
+  image-list r f e = subst (PrintsImage image names area area) (inv e) (record { is = λ found x text s. is-no-list found x text names area s.good (inv c.answer ∙ f) })
 
-  module _ (good : not t ≡ false) where
+  module _ (good : t ≡ true) where
     yes-list : is_list names ≡ true
-    yes-list = inv c.answer ∙ not-false t good
+    yes-list = inv c.answer ∙ good
 
     stands : Stands names 0 (entries_of names)
-    stands = c.stands (not-false t good)
+    stands = c.stands good
 
     module _ (u : Bool) (named : (l : List Entry) → Stands names 0 l → u ≡ records_named l (items image)) where
-      pub image-name : (r : Printout) → not u ≡ true → r ≡ refusal 44 0 → PrintsImage image names area area r
+      pub image-name : (r : Printout) → u ≡ false → r ≡ refusal 44 0 → PrintsImage image names area area r
       image-name r f e =
           subst (PrintsImage image names area area) (inv e)
-          (record { is = λ found x text s. is-no-name found x text names area s.good yes-list (inv (s.named (entries_of names)) ∙ inv (named (entries_of names) stands) ∙ not-true u f) })
+          (record { is = λ found x text s. is-no-name found x text names area s.good yes-list (inv (s.named (entries_of names)) ∙ inv (named (entries_of names) stands) ∙ f) })
 
-      module _ (all : not u ≡ false) (n : ℕ) (long : (l : List Entry) → Stands names 0 l → n ≡ reach 0 (walked (naming l) 0 [] (items image))) where
+      module _ (all : u ≡ true) (n : ℕ) (long : (l : List Entry) → Stands names 0 l → n ≡ reach 0 (walked (naming l) 0 [] (items image))) where
         abbrev w : List ℕ
         w = walked (naming (entries_of names)) 0 [] (items image)
 
         yes-named : (x : Expr) → ((l : List Entry) → records_named l (items image) ≡ all_named l x) → all_named (entries_of names) x ≡ true
-        yes-named x h = inv (h (entries_of names)) ∙ inv (named (entries_of names) stands) ∙ not-false u all
+        yes-named x h = inv (h (entries_of names)) ∙ inv (named (entries_of names) stands) ∙ all
 
         pub image-long : (r : Printout) → 65536 < n → r ≡ refusal 46 0 → PrintsImage image names area area r
         image-long r h e =

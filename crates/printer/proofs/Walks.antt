@@ -1,11 +1,11 @@
 -- Along the records of an image.
-use Prim.Native.Nat.{ℕ, zero, suc, ◌+◌, ◌-◌, ◌≤◌, ◌<◌}
+use Prim.Native.Nat.{ℕ, ◌+◌, ◌≤◌, ◌<◌}
 use mathlib.Core.Path.{◌≡◌, refl, sym as inv, ap, ap₂, ◌∙◌, subst}
 use mathlib.Core.Bool.{Bool, true, false, not}
 use mathlib.Core.List.{List, [], ◌∷◌, ◌++◌, append_assoc, append-nil}
 use native.Mathlib.Omega.{arith}
-use borrow.Author.Tests.{not-true, not-false, lt-ltb, le-ltb}
-use lib.ListN.{length, get_or, take, drop, length-drop, drop_of_length-le}
+use borrow.Author.Tests.{not-true, not-false, lt-ltb}
+use lib.ListN.{length, get_or, drop, length-drop, drop_of_length-le}
 use lib.Seq.{length-take-le}
 use lib.Dec.{ltb}
 use Rattle.terms.specs.When.{◌⇒◌∣◌}
@@ -13,7 +13,7 @@ use Rattle.format.specs.declared.Record.{Record}
 use Rattle.format.specs.declared.Record.TheVariants.{Variable, Constant, Compound, Formula, Clause, Goal, End}
 use Rattle.format.specs.Format.{record_kind, encode_record, encode}
 use Rattle.format.specs.Reading.{body_length, record_at}
-use Rattle.format.proofs.Encoded.{Encoded, encoded}
+use Rattle.format.proofs.Encoded.{encoded}
 use Rattle.grammar.specs.Names as Names
 use Rattle.grammar.specs.Names.{Sort, kind}
 use Rattle.printing.specs.Named.{Naming}
@@ -21,7 +21,7 @@ use Rattle.namelist.specs.List.{Entry, naming}
 use Rattle.namelist.specs.ListLaws.{Stands, NamesIt}
 use Rattle.namelist.specs.NamingLaws.{some}
 use Rattle.namelist.proofs.Walking.{stands_one}
-use Rattle.printouts.specs.Walk.{ending, walked, piece, turn_after, owed_after}
+use Rattle.printouts.specs.Walk.{ending, walked, piece}
 use Rattle.printouts.specs.Laying.{Lays, lays-none, lays-then}
 use Rattle.pen.specs.declared.Pen.{Pen}
 use Rattle.pen.specs.Parts.{Room}

@@ -1,12 +1,12 @@
 -- What each record adds to the text.
-use Prim.Native.Nat.{ℕ, zero, suc, ◌+◌, ◌-◌, ◌≤◌, ◌<◌}
-use mathlib.Core.Path.{◌≡◌, refl, sym as inv, ap, ap₂, ◌∙◌, subst}
-use mathlib.Core.List.{List, [], ◌∷◌, ◌++◌, append_assoc, append-nil}
+use Prim.Native.Nat.{ℕ, zero, suc}
+use mathlib.Core.Path.{◌≡◌, refl, sym as inv, ap, ◌∙◌, subst}
+use mathlib.Core.List.{List, [], ◌∷◌, ◌++◌, append-nil}
 use native.Mathlib.Omega.{arith}
 use lib.ListN.{length, drop, drop_of_length-le}
 use lib.Dec.{eqb}
 use Rattle.terms.specs.When.{◌⇒◌∣◌}
-use Rattle.format.specs.declared.Record.TheVariants.{Variable, Constant, Compound, Formula, Clause, Goal, End}
+use Rattle.format.specs.declared.Record.TheVariants.{Variable, Constant, Compound, Formula}
 use Rattle.grammar.specs.Names as Names
 use Rattle.grammar.specs.Names.{Sort, kind}
 use Rattle.printing.specs.Named.{Naming, variable_name}
