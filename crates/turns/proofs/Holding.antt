@@ -86,7 +86,8 @@ low-tail counts (suc d) at l = rw (let q : suc d - 1 ≡ d = omega arith in q) l
 comma-low : (counts : List ℕ) (d at : ℕ) → (d ≡ 0 → ⊥) → d ≤ length counts → Low at (stack counts d) → Low (at + 1) (stack (set counts (d - 1) (get_or counts (d - 1) 0 + 1)) d)
 comma-low counts zero at n h l = absurd (n refl)
 comma-low counts (suc d) at n h l =
-    rw (let q : suc d - 1 ≡ d = omega arith in q) (subst (Low (at + 1)) (inv (stack_top counts d (get_or counts d 0 + 1) (omega arith))) (omega (arith, l.0), low-more at (at + 1) (stack counts d) (omega arith) l.1))
+    let q : suc d - 1 ≡ d = omega arith in
+    subst (λ (k : ℕ). Low (at + 1) (stack (set counts k (get_or counts k 0 + 1)) (suc d))) (inv q) (subst (Low (at + 1)) (inv (stack_top counts d (get_or counts d 0 + 1) (omega arith))) (omega (arith, l.0), low-more at (at + 1) (stack counts d) (omega arith) l.1))
 
 open_low : (counts : List ℕ) (d at : ℕ) → d < length counts → Low at (stack counts d) → Low (at + 1) (stack (set counts d 0) (d + 1))
 open_low counts d at h l =

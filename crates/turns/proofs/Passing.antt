@@ -4,14 +4,13 @@ use mathlib.Core.Path.{◌≡◌, refl, sym as inv, ap, ap₂, ◌∙◌}
 use mathlib.Core.Bool.{Bool, true, false, not, true≢false}
 use mathlib.Core.List.{List, [], ◌∷◌}
 use native.Mathlib.Omega.{arith}
-use lib.ListN.{length, get_or, set, take, drop, length-drop}
+use lib.ListN.{length, get_or, set, drop, length-drop}
 use lib.Seq.{length-take-le}
 use lib.Dec.{eqb, leb, ltb}
-use borrow.Author.Tests.{eq-eqb, ne_eqb, leb-true, leb-false, lt-leb, le-leb, ltb-true, ltb-false}
+use borrow.Author.Tests.{ne_eqb, lt-leb, le-leb, ltb-true, ltb-false}
 use Rattle.terms.specs.When.{◌⇒◌∣◌}
 use Rattle.terms.specs.Cases.{cases}
-use Rattle.grammar.specs.Token.{Token, name, variable, opening, closing, comma, arrow, stop, token, blank, comment, spelt}
-use Rattle.grammar.specs.Front.{front}
+use Rattle.grammar.specs.Token.{Token, name, variable, opening, closing, comma, stop, token, spelt}
 use Rattle.reading.specs.Reader.{long}
 use Rattle.pieces.specs.declared.Found.{Found}
 use Rattle.pieces.specs.declared.Found.TheVariants as F
@@ -22,10 +21,10 @@ use Rattle.halfway.specs.declared.Mode.TheVariants.{Begin, Expects, Named, Compl
 use Rattle.halfway.specs.declared.Stage.{Stage}
 use Rattle.halfway.specs.declared.Judged.{Judged}
 use Rattle.halfway.specs.declared.Judged.TheVariants.{Going, Bad}
-use Rattle.halfway.specs.Machine.{settled, after, deep, Answer, fine, bad, sized, judged, half, from}
+use Rattle.halfway.specs.Machine.{settled, after, deep, Answer, bad, sized, judged, half, from}
 use Rattle.pieces.specs.Found.{end_of}
-use Rattle.halfway.specs.Stage.{is_wrong, code_at, name_size, size_at, place_of, stage_after, counts_after, next, turned, stack, tally_of, Held}
-use Rattle.turns.proofs.Turning.{deep-stack, code-stack, stack_top, ready}
+use Rattle.halfway.specs.Stage.{is_wrong, name_size, size_at, place_of, stage_after, counts_after, next, turned, stack, tally_of}
+use Rattle.turns.proofs.Turning.{deep-stack, code-stack, stack_top}
 
 -- what is done with a piece that is judged
 abbrev pub answered : (Mode → Tally → ℕ → List ℕ → Answer) → List ℕ → ℕ → List ℕ → Judged → Answer

@@ -1,23 +1,21 @@
 -- What a piece leads to, in numbers, is what the few modes make of it.
-use Prim.Native.Nat.{ℕ, zero, suc, ◌+◌, ◌-◌, ◌≤◌, ◌<◌}
-use mathlib.Core.Path.{◌≡◌, refl, sym as inv, ap, ap₂, ◌∙◌}
-use mathlib.Core.Bool.{Bool, true, false, not, true≢false}
+use Prim.Native.Nat.{ℕ, zero, suc, ◌-◌, ◌≤◌, ◌<◌}
+use mathlib.Core.Path.{◌≡◌, refl, sym as inv, ap, ap₂}
+use mathlib.Core.Bool.{Bool, true, false, true≢false}
 use mathlib.Core.List.{List, [], ◌∷◌}
 use native.Mathlib.Omega.{arith}
 use lib.ListN.{length, get_or, set}
 use lib.Seq.{get_or-set_same, get_or-set_other}
-use lib.Dec.{eqb, leb, ltb}
-use borrow.Author.Tests.{eq-eqb, ne_eqb, eqb-true, eqb-false, ltb-true, lt-ltb, le-ltb}
+use lib.Dec.{leb, ltb}
+use borrow.Author.Tests.{ne_eqb, ltb-true, lt-ltb}
 use Rattle.terms.specs.When.{◌⇒◌∣◌}
-use Rattle.terms.specs.Cases.{cases}
 use Rattle.pieces.specs.declared.Found.{Found}
-use Rattle.pieces.specs.declared.Found.TheVariants as F
 use Rattle.asking.specs.Asking.{full, code}
 use Rattle.halfway.specs.declared.Mode.{Mode}
 use Rattle.halfway.specs.declared.Mode.TheVariants.{Begin, Expects, Named, Complete, Over, Wrong}
 use Rattle.halfway.specs.declared.Stage.{Stage}
-use Rattle.halfway.specs.Machine.{deep, when, behind, on_opening}
-use Rattle.halfway.specs.Stage.{is_wrong, full_at, code_at, next, after_found, stack, tally_of, Low, Ready, Advances, Roomy, Held}
+use Rattle.halfway.specs.Machine.{deep, when, behind}
+use Rattle.halfway.specs.Stage.{is_wrong, full_at, code_at, next, stack, tally_of, Low, Ready, Advances, Roomy, Held}
 
 -- The counts of the open brackets
 

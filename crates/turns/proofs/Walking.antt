@@ -1,7 +1,7 @@
 -- One pass over the text.
 use Prim.Native.Nat.{ℕ, zero, suc, ◌+◌, ◌-◌, ◌≤◌, ◌<◌}
 use mathlib.Core.Path.{◌≡◌, refl, sym as inv, ap, ◌∙◌, subst}
-use mathlib.Core.Bool.{Bool, true, false, not, true≢false}
+use mathlib.Core.Bool.{Bool, true, false}
 use mathlib.Core.List.{List, [], ◌∷◌}
 use native.Mathlib.Omega.{arith}
 use lib.ListN.{length, drop, length-drop}
@@ -12,7 +12,7 @@ use Rattle.terms.specs.Cases.{cases}
 use Rattle.grammar.specs.Front.{front_of}
 use Rattle.pieces.specs.declared.Found.{Found}
 use Rattle.pieces.specs.declared.Found.TheVariants as F
-use Rattle.pieces.specs.Found.{front_at, Inside, Shows}
+use Rattle.pieces.specs.Found.{Inside, Shows}
 use Rattle.asking.specs.Asking.{begin, none_yet, Tally, Outcome, read, refused, walk, asking}
 use Rattle.halfway.specs.declared.Mode.{Mode}
 use Rattle.halfway.specs.declared.Mode.TheVariants.{Begin}

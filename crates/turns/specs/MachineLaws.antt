@@ -1,9 +1,9 @@
 -- The few modes go as the reader's states do.
 use Rattle.std.specs.Prelude.{ℕ, zero, suc, ◌+◌, ◌≡◌, refl, Bool, true, false, List, [], ◌∷◌, length}
-use Rattle.std.proofs.Common.{sym as inv, ap, ◌∙◌, true≢false, arith}
+use Rattle.std.proofs.Common.{sym as inv, ap, ◌∙◌, true≢false}
 use Rattle.grammar.specs.Token.{Token, name, variable, opening, closing, comma, arrow, stop, token, blank, comment, spelt}
 use Rattle.grammar.specs.Front.{Front, front, broken, unexpected, front_of}
-use Rattle.grammar.specs.Syntax.{Terms, none, Formula, Rule}
+use Rattle.grammar.specs.Syntax.{Terms, none, Rule}
 use Rattle.reading.specs.Part.{Done, none_yet, and_variable, and_name, Part, formulas, inside, State, state, terms_of, put, filled, Taken, taken, wrong, settle}
 use Rattle.reading.specs.Part as Part
 use Rattle.reading.specs.Reader.{long, judge_taken}
@@ -11,7 +11,7 @@ use Rattle.asking.specs.Asking.{begin, step, goal, unfinished, meaning, Tally, t
 use Rattle.asking.specs.Asking as Asking
 use Rattle.halfway.specs.declared.Mode.{Mode}
 use Rattle.halfway.specs.declared.Mode.TheVariants.{Begin, Expects, Named, Complete, Over, Wrong}
-use Rattle.halfway.specs.Machine.{settled, after, deep, may_end, Answer, fine, bad, told, sized, judged, half, from, ended, pass}
+use Rattle.halfway.specs.Machine.{settled, after, deep, may_end, Answer, told, sized, judged, half, from, ended, pass}
 
 -- as many brackets are open, and the root has a formula
 abbrev Deep : Part → List ℕ → Type 0

@@ -1,5 +1,5 @@
 -- The whole text.
-use Rattle.std.specs.Prelude.{ℕ, suc, ◌+◌, ◌≤◌, ◌<◌, ◌≡◌, List, length}
+use Rattle.std.specs.Prelude.{ℕ, suc, ◌≤◌, ◌<◌, ◌≡◌, List, length}
 use Rattle.asking.specs.Asking.{begin, none_yet, Outcome, read, refused, walk}
 use Rattle.halfway.specs.declared.Ended.{Ended}
 use Rattle.halfway.specs.declared.Ended.TheVariants.{Fine, Refused}
