@@ -27,7 +27,6 @@ use Rattle.printouts.specs.OutcomeLaws.{outcome-prints}
 use Rattle.namelist.specs.Table.{table_entries}
 use Rattle.printouts.specs.Again as Printed
 use Rattle.printouts.specs.Again.{text_of}
-use Rattle.readouts.specs.declared.ReadText.{ReadText}
 use Rattle.readouts.specs.Outcome as Outcome
 use Rattle.readouts.specs.Outcome.{refusal, done, filled, reads, read_answer, read_book, names_read}
 use Rattle.readouts.specs.OutcomeLaws.{Is, read_once}

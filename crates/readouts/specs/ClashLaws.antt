@@ -1,16 +1,15 @@
 -- What is computed of arities is what is told.
-use Rattle.std.specs.Prelude.{ℕ, zero, suc, ◌+◌, ◌<◌, ◌≡◌, refl, List, [], ◌∷◌, ◌++◌, map, length}
+use Rattle.std.specs.Prelude.{ℕ, zero, suc, ◌<◌, ◌≡◌, refl, List, [], ◌∷◌, ◌++◌, map, length}
 use Rattle.std.proofs.Common.{sym as inv, ap, ap₂, ◌∙◌, subst, inl, append_assoc, append-nil, arith, length-append}
 use Rattle.std.proofs.Math.Decide.{dec_lt}
 use Rattle.terms.specs.Cases.{cases}
-use Rattle.terms.specs.Node.{constant, compound, predicate, var, sym, Expr}
 use Rattle.words.specs.Flat.{flat}
 use Rattle.grammar.specs.Syntax.{Terms, none, variable_then, name_then, Rule}
 use Rattle.grammar.specs.Syntax as Syntax
 use Rattle.grammar.specs.Names.{Sort, Spot, symbol_spot, count, called, spots_then, formula_spots, with_variable, variables_after, numbered, numbered_all, clause, names, book}
 use Rattle.format.specs.declared.Record.{Record}
 use Rattle.format.specs.declared.Record.TheVariants.{Formula}
-use Rattle.format.specs.Arities.{Use, use_of, node_uses, goal_uses, book_uses, Used, OneArity, Memory, nothing_met, recall, keeps}
+use Rattle.format.specs.Arities.{Use, node_uses, goal_uses, book_uses, Used, OneArity, Memory, nothing_met, recall, keeps}
 use Rattle.format.specs.ArityLaws.{recall-append, used-left, used-right, arity_iff, one_more}
 use Rattle.format.proofs.Meaning.{one_none}
 use Rattle.printing.specs.ArityLaws.{uses-append}
