@@ -1,7 +1,7 @@
 -- Printing and reading together (document 02, C-14), over the entries' contracts: what printing a goal or an answer leaves, reading against the same book and names answers with the same
 -- goal, or with the answer whose variables are numbered afresh, and with the same names, and with nothing else but 43.
 use Rattle.std.specs.Prelude.{ℕ, ◌≤◌, ◌<◌, ◌≡◌, refl, ◌⊎◌, List, [], ◌∷◌, ◌++◌, length}
-use Rattle.std.proofs.Common.{sym as inv, ap, ◌∙◌, subst, arith}
+use Rattle.std.proofs.Common.{sym as inv, ap, ◌∙◌, subst}
 use Rattle.terms.specs.Node.{constant, compound, predicate, var, sym, Expr}
 use Rattle.terms.specs.Number.{number, number_all, grow}
 use Rattle.search.specs.Next as Next
@@ -11,7 +11,7 @@ use Rattle.format.specs.Decode.{book_of, goal_of}
 use Rattle.format.specs.Format.{Bytes, encode_goal}
 use Rattle.format.specs.Arities.{Use, use_of, node_uses, book_uses, OneArity, Suits}
 use Rattle.format.proofs.Meaning.{query-book}
-use Rattle.format.proofs.Decoding.{goal_of-good, goal_of-suits}
+use Rattle.format.proofs.Decoding.{goal_of-suits}
 use Rattle.grammar.specs.Names.{list_of}
 use Rattle.grammar.specs.Query.{Given, names_with, goal, ReadingQuery}
 use Rattle.asking.specs.FaultLaws.{Accepted}

@@ -1,10 +1,10 @@
 -- The codes that reading a query's text answers with, and how large its figures are.
-use Rattle.std.specs.Prelude.{ℕ, ◌+◌, ◌≤◌, ◌<◌, ◌≡◌, refl, ◌⊎◌, List, ◌++◌, length}
+use Rattle.std.specs.Prelude.{ℕ, ◌+◌, ◌≤◌, ◌≡◌, refl, ◌⊎◌, List, ◌++◌, length}
 use Rattle.std.proofs.Common.{ap, inl, inr, arith, length-append}
 use Rattle.format.specs.Reading.{book_verdict}
-use Rattle.format.specs.Format.{Bytes, encode_goal}
+use Rattle.format.specs.Format.{Bytes}
 use Rattle.format.proofs.Longest.{good-short}
-use Rattle.grammar.specs.Token.{Token, name, bytes, spelling}
+use Rattle.grammar.specs.Token.{Token, bytes, spelling}
 use Rattle.grammar.specs.GoodLaws.{query_good}
 use Rattle.asking.specs.Unexpected.{Unexpected, too_early, no_further}
 use Rattle.asking.specs.Refusal.{StandsAt, Fault, unexpected_byte, longest_name, out_of_range, nodes_passed, Refusal, long_text, first_fault}

@@ -1,11 +1,10 @@
 -- The first formula whose predicate had another arity before (document 02, C-18).
-use Rattle.std.specs.Prelude.{ℕ, suc, ◌+◌, ◌<◌, ◌≡◌, refl, true, false, List, [], ◌∷◌, ◌++◌, length}
-use Rattle.std.proofs.Common.{sym as inv, ap, ◌∙◌, subst, true≢false, append_assoc, append-nil, arith, length-append}
-use Rattle.terms.specs.When.{◌⇒◌∣◌}
+use Rattle.std.specs.Prelude.{ℕ, suc, ◌+◌, ◌<◌, ◌≡◌, refl, List, [], ◌∷◌, ◌++◌, length}
+use Rattle.std.proofs.Common.{sym as inv, ap, ◌∙◌, subst, append_assoc, append-nil, arith, length-append}
 use Rattle.terms.specs.Cases.{cases}
 use Rattle.format.specs.declared.Record.TheVariants as Record
-use Rattle.format.specs.Arities.{Use, use_of, OneArity, AnotherArity, Memory, nothing_met, meet, recall, keeps, record_uses, uses_of}
-use Rattle.format.specs.ArityLaws.{one_left, recall-append, recall_record, arity_iff, one_more, one_kept}
+use Rattle.format.specs.Arities.{Use, OneArity, AnotherArity, Memory, nothing_met, meet, recall, keeps}
+use Rattle.format.specs.ArityLaws.{one_left, recall-append, arity_iff, one_more, one_kept}
 use Rattle.questions.specs.Outcome.{kept}
 
 -- k uses keep one arity with those before them, and the next one does not

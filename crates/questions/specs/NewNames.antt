@@ -1,5 +1,5 @@
 -- The names of a query behind those of the list: they are in C-13's form, and the list's names keep their numbers.
-use Rattle.std.specs.Prelude.{ℕ, ◌≤◌, ◌≡◌, refl, List, [], ◌∷◌, ◌++◌, length}
+use Rattle.std.specs.Prelude.{ℕ, ◌≡◌, refl, List, [], ◌∷◌, ◌++◌}
 use Rattle.std.proofs.Common.{sym as inv, ap, ◌∙◌, append_assoc, append-nil, arith}
 use Rattle.terms.specs.Cases.{cases}
 use Rattle.grammar.specs.Syntax.{Formula}

@@ -1,12 +1,12 @@
 -- What reading a query's text against a book and its name list answers, and what the two lent areas hold afterwards (docs/DECISIONS.md, C-13).
-use Rattle.std.specs.Prelude.{ℕ, zero, suc, ◌+◌, Bool, not, ◌&&◌, List, [], ◌∷◌, ◌++◌, length, drop, eqb, leb}
+use Rattle.std.specs.Prelude.{ℕ, suc, ◌+◌, Bool, not, ◌&&◌, List, [], ◌∷◌, ◌++◌, length, drop, eqb, leb}
 use Rattle.terms.specs.When.{◌⇒◌∣◌}
 use Rattle.format.specs.declared.Record.TheVariants as Record
 use Rattle.format.specs.Reading.{book_verdict}
 use Rattle.format.specs.Decode.{book_of}
 use Rattle.format.specs.Format.{encode_goal}
 use Rattle.format.specs.Arities.{Use, book_uses, goal_uses, Memory, nothing_met, meet, recall, keeps}
-use Rattle.grammar.specs.Token.{name, variable, opening, closing, comma, arrow, stop, Piece, token, blank, comment, spelt}
+use Rattle.grammar.specs.Token.{name, variable, opening, closing, comma, arrow, stop, Piece, token, blank, comment}
 use Rattle.grammar.specs.Front.{pieces_of}
 use Rattle.grammar.specs.Syntax.{Formula}
 use Rattle.grammar.specs.Names.{list_of}

@@ -1,15 +1,14 @@
 -- What reading a query answers, told by what books, lists and texts are; and that this is what is computed.
-use Rattle.std.specs.Prelude.{ℕ, ◌≤◌, ◌<◌, ◌≡◌, Bool, true, false, not, ◌&&◌, ◌⊎◌, List, [], ◌∷◌, ◌++◌, length, eqb, leb}
+use Rattle.std.specs.Prelude.{ℕ, ◌≤◌, ◌<◌, ◌≡◌, Bool, true, false, ◌&&◌, ◌⊎◌, List, [], ◌++◌, length, eqb, leb}
 use Rattle.std.proofs.Math.Path.{refl}
 use Rattle.std.proofs.Common.{sym as inv, ap, ◌∙◌, subst, true≢false, inl, inr, arith}
 use borrow.Author.Tests.{leb-true, leb-false, le-leb, lt-leb, eqb-true, eqb-false, eq-eqb, ne_eqb}
-use Rattle.terms.specs.When.{◌⇒◌∣◌}
 use Rattle.terms.specs.Cases.{cases}
 use Rattle.format.specs.Reading.{book_verdict, query_verdict}
 use Rattle.format.specs.declared.Check.{Check}
 use Rattle.format.specs.Decode.{book_of}
 use Rattle.format.specs.Format.{Bytes, encode_goal}
-use Rattle.format.specs.Arities.{book_uses, goal_uses, OneArity, Suits}
+use Rattle.format.specs.Arities.{book_uses, goal_uses, Suits}
 use Rattle.format.proofs.Decoding.{book_of-good, book_of-one}
 use Rattle.format.proofs.Meaning.{query-written}
 use Rattle.grammar.specs.Syntax.{Formula}
@@ -26,7 +25,7 @@ use Rattle.asking.specs.AskingLaws.{refusal-code, asking_iff, refusal_iff}
 use Rattle.questions.specs.declared.ReadQuery.{ReadQuery}
 use Rattle.questions.specs.Given.{Gives, given_from, gives, gives-means, gives-is, given_is}
 use Rattle.questions.specs.NewNames.{with_good, names-begin}
-use Rattle.questions.specs.Outcome.{refusal, kept, formula_at, image, list, uses, suited, room, answered, filled, by_text, outcome, image_of, list_from, query_area, list_area}
+use Rattle.questions.specs.Outcome.{refusal, formula_at, suited, room, answered, filled, outcome, query_area, list_area}
 use Rattle.readouts.specs.ClashLaws.{formulas-uses}
 use Rattle.questions.specs.Place.{FormulaAt, place_is, formula-there}
 use Rattle.questions.specs.Kept.{Clashes, View, all_kept, clash, kept-view, kept-all, clash-kept, clash-low}

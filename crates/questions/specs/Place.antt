@@ -5,7 +5,7 @@ use Rattle.grammar.specs.Token.{Token, name, variable, opening, closing, comma, 
 use Rattle.grammar.specs.TokenLaws.{spelt-long}
 use Rattle.grammar.specs.Front.{pieces_of}
 use Rattle.grammar.specs.Syntax.{Terms, none, variable_then, name_then, Formula, Turn, first, later, arguments_then, formula_then}
-use Rattle.grammar.specs.Query.{more_then, ends_with, asked, Asks}
+use Rattle.grammar.specs.Query.{more_then, ends_with, Asks}
 use Rattle.reading.specs.Stop.{SpacedTo}
 use Rattle.reading.specs.Viable.{bytes-append}
 use Rattle.asking.specs.Asking.{Tally, tally, none_yet, counted}
@@ -51,6 +51,8 @@ sought at (token closing ∷ ps) w qs (by_closing p) = sought (at + 1) ps w qs p
 sought at (token comma ∷ ps) w qs (by_comma p) = sought (at + 1) ps w qs p ∙ omega arith
 sought at (blank b ∷ ps) w qs p = sought (at + 1) ps w qs p ∙ omega arith
 sought at (comment c ∷ ps) w qs p = sought (at + suc (length c)) ps w qs p ∙ omega (arith, length-append c (bytes ps))
+sought {k = k} {y = y} at (token arrow ∷ ps) w qs p = elim p [ ]
+sought {k = k} {y = y} at (token stop ∷ ps) w qs p = elim p [ ]
 
 -- the open brackets before an argument, the first or a later one
 abbrev open_at : Turn → ℕ → List ℕ → List ℕ
