@@ -1,9 +1,8 @@
 -- From the choice of a clause to the pick.
-use Prim.Native.Nat.{ℕ, ◌+◌, ◌-◌, ◌≤◌, ◌<◌}
+use Prim.Native.Nat.{ℕ, ◌-◌}
 use native.Mathlib.Omega.{arith}
 use mathlib.Core.Path.{◌≡◌, refl, sym as inv, ap, ◌∙◌, subst}
 use mathlib.Core.List.{List, [], ◌∷◌}
-use lib.ListN.{length, drop}
 use Rattle.terms.specs.Node.{Expr}
 use Rattle.search.specs.Next.{Book, Goal, First, clause_at}
 use Rattle.search.specs.Furthest.{Figures, no_figures, figures, figures_22, figures-other}
@@ -13,7 +12,6 @@ use Rattle.search.specs.PickLaws.{pick_iff}
 use Rattle.words.specs.Held.{GoalIn, BookOn}
 use Rattle.words.specs.HeldLaws.{clauses-of}
 use Rattle.resolve.specs.declared.Choice.{Choice}
-use Rattle.resolve.specs.declared.Choice.TheVariants as Choice
 use Rattle.resolve.specs.Advancing.{Chosen, fits_first, none_fits, not_known}
 use Rattle.outcomes.specs.declared.Picked.{Picked}
 use Rattle.outcomes.specs.Outcome.{picked_as, pick_said}
