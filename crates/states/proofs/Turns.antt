@@ -24,7 +24,6 @@ use Rattle.search.specs.AnswerLaws.{answer-next, ending, answered_iff}
 use Rattle.words.specs.Held.{GoalIn}
 use Rattle.detector.specs.declared.Detector.{Detector}
 use Rattle.detector.specs.declared.Verdict.{Verdict}
-use Rattle.detector.specs.declared.Verdict.TheVariants as Verdict
 use Rattle.states.specs.declared.Place.{Place}
 use Rattle.states.specs.declared.Turn.{Turn}
 use Rattle.states.specs.declared.Turn.TheVariants.{Open}
