@@ -7,7 +7,7 @@ use lib.ListN.{length, get_or, take, drop, length-drop, length-map}
 use lib.Seq.{length-take-le, get_or-take, get_or-drop, take-add, take_at, drop_at}
 use Rattle.terms.specs.Node.{Expr}
 use Rattle.terms.specs.Number.{number, seen_after}
-use Rattle.terms.specs.NumberLaws.{number_append, number-length}
+use Rattle.terms.proofs.NumberLaws.{number_append, number-length}
 use Rattle.terms.specs.Row.{Formulas, Atoms}
 use Rattle.search.specs.Next.{Goal}
 use Rattle.words.specs.Word.{node, nodes, Fit, Fits}

@@ -9,9 +9,9 @@ use Rattle.terms.specs.RowLaws.{every_append}
 use Rattle.terms.specs.Subst.{Subst, apply, MostGeneral}
 use Rattle.terms.specs.Rename.{rename, Apart}
 use Rattle.terms.specs.Number.{number, number_all, seen_after, seen_all}
-use Rattle.terms.specs.NumberLaws.{number-all-length, number-all-append, number-length, seen-append}
+use Rattle.terms.proofs.NumberLaws.{number-all-length, number-all-append, number-length, seen-append}
 use Rattle.search.specs.Next.{Clause, Goal, resolvent, Resolved}
-use Rattle.search.specs.NextLaws.{resolved-formulas, resolved-atoms}
+use Rattle.search.proofs.NextLaws.{resolved-formulas, resolved-atoms}
 use Rattle.search.specs.Room.{nodes as size}
 use Rattle.words.specs.Flat.{flat, flat_append, flat-apply, flat-rename, flat-number, flat-size}
 use Rattle.applying.specs.Applying.{Onward}

@@ -15,8 +15,8 @@ use Rattle.search.specs.Step.{next}
 use Rattle.search.specs.Room.{fits, fits_iff}
 use Rattle.search.specs.Run.{goal_at}
 use Rattle.search.specs.Resolution.{Atomics, AtomicClauses}
-use Rattle.search.specs.NextLaws.{next_iff, resolved-every}
-use Rattle.search.specs.PathLaws.{path-holds, step-goal, path-numbered}
+use Rattle.search.proofs.NextLaws.{next_iff, resolved-every}
+use Rattle.search.proofs.PathLaws.{path-holds, step-goal, path-numbered}
 use Rattle.words.specs.Flat.{flat, flat-size}
 use Rattle.format.specs.Reading.{next_unused}
 use Rattle.format.specs.Format.{Terms, terms_none, terms_var, terms_constant, terms_compound, IsFormula, formula, AreFormulas, Below, GoodClauses, GoodBook, GoodGoal}

@@ -9,8 +9,8 @@ use Rattle.terms.specs.Substitution.{Symbols}
 use Rattle.search.specs.Next.{Clause, Book, Goal, First, Resolved, Next}
 use Rattle.search.specs.Step.{next}
 use Rattle.search.specs.Run.{goal_at}
-use Rattle.search.specs.NextLaws.{next_iff, resolved-every}
-use Rattle.search.specs.PathLaws.{path-holds, step-goal}
+use Rattle.search.proofs.NextLaws.{next_iff, resolved-every}
+use Rattle.search.proofs.PathLaws.{path-holds, step-goal}
 use Rattle.search.specs.Known.{symbol_for, Known}
 use Rattle.words.specs.Flat.{flat}
 use Rattle.format.specs.Format.{GoodClauses, GoodBook, GoodGoal}

@@ -9,8 +9,8 @@ use Rattle.terms.specs.Subst.{Subst, apply, MostGeneral}
 use Rattle.terms.specs.Substitution.{Symbols}
 use Rattle.terms.specs.Rename.{rename}
 use Rattle.terms.specs.Unify.{Answer, unify}
-use Rattle.terms.specs.UnifyLaws.{unify-sound, unify-complete}
-use Rattle.terms.specs.FoundLaws.{heads-found}
+use Rattle.terms.proofs.UnifyLaws.{unify-sound, unify-complete}
+use Rattle.terms.proofs.FoundLaws.{heads-found}
 
 module _ (Q : Symbol → Type 0) where
   pub symbols-append : (a b : Expr) → Symbols Q a → Symbols Q b → Symbols Q (a ++ b)

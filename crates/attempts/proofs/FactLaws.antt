@@ -16,7 +16,7 @@ use Rattle.terms.specs.SubstLaws.{apply-on, apply-itself}
 use Rattle.terms.specs.Rename.{rename}
 use Rattle.terms.specs.RenameLaws.{rename_idle}
 use Rattle.terms.specs.Number.{seen_after, number}
-use Rattle.terms.specs.NumberLaws.{number-is-rename}
+use Rattle.terms.proofs.NumberLaws.{number-is-rename}
 use Rattle.terms.specs.Argument.{firsts}
 use Rattle.search.specs.Next.{Clause, Book, Goal, Meets, clause_at}
 use Rattle.words.specs.Word.{Valids, node, nodes}

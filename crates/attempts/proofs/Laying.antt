@@ -13,7 +13,7 @@ use Rattle.terms.specs.Rename.{rename, Apart}
 use Rattle.terms.specs.RenameLaws.{rename-row, rename-apply}
 use Rattle.terms.specs.Argument.{firsts}
 use Rattle.search.specs.Next.{Clause, Goal, Meets}
-use Rattle.search.specs.NextLaws.{carried}
+use Rattle.search.proofs.NextLaws.{carried}
 use Rattle.words.specs.Word.{Fit, Fits, node, nodes}
 use Rattle.words.specs.WordLaws.{each_append, fits_more, in-fits}
 use Rattle.words.specs.Flat.{flat, rename-append}

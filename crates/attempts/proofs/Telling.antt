@@ -8,7 +8,7 @@ use Rattle.terms.specs.Node.{Expr}
 use Rattle.terms.specs.Subst.{Subst, apply}
 use Rattle.terms.specs.Rename.{rename}
 use Rattle.terms.specs.Number.{number}
-use Rattle.terms.specs.NumberLaws.{number-is-rename}
+use Rattle.terms.proofs.NumberLaws.{number-is-rename}
 use Rattle.search.specs.Next.{Clause, Book, Meets, clause_at}
 use Rattle.words.specs.Word.{kind_of, arity_of, Plain, Valid, node, nodes}
 use Rattle.words.specs.WordLaws.{node-sym}

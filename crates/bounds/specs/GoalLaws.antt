@@ -6,7 +6,7 @@ use Rattle.terms.specs.Node.{Expr}
 use Rattle.terms.specs.Subst.{In, InAny, Subst, Proper, apply}
 use Rattle.terms.specs.SubstLaws.{in-append}
 use Rattle.terms.specs.Number.{place, seen_after, seen_all, number, number_all}
-use Rattle.terms.specs.NumberLaws.{number-length, number-all-append, number-all-length, number-is-rename}
+use Rattle.terms.proofs.NumberLaws.{number-length, number-all-append, number-all-length, number-is-rename}
 use Rattle.search.specs.Next.{Goal}
 use Rattle.search.specs.Room.{nodes}
 use Rattle.words.specs.Flat.{flat, flat_append, flat-apply, flat-number, flat-size}

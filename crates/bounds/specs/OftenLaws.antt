@@ -6,7 +6,7 @@ use Rattle.terms.specs.Node.{Expr}
 use Rattle.terms.specs.When.{◌⇒◌∣◌}
 use Rattle.terms.specs.Subst.{In, InAny, Subst, itself}
 use Rattle.terms.specs.Number.{place, seen_all, number_all}
-use Rattle.terms.specs.NumberLaws.{get_d_place, in-seen-all, number-all-is-rename}
+use Rattle.terms.proofs.NumberLaws.{get_d_place, in-seen-all, number-all-is-rename}
 use Rattle.search.specs.Next.{Goal}
 use Rattle.words.specs.Word.{kind_of, Valid, node}
 use Rattle.words.specs.WordLaws.{node-var, node-sym}

@@ -4,8 +4,8 @@ use Rattle.std.proofs.Common.{arith, sym as inv, ap, ap₂, ◌∙◌, subst, le
 use Rattle.search.specs.Next.{Book, Goal}
 use Rattle.search.specs.Answer as Answer
 use Rattle.search.specs.Answer.{Answered, answer_at}
-use Rattle.search.specs.AnswerLaws.{answered-runs, answer-whole}
-use Rattle.search.specs.AnswerRuns.{answers-goal}
+use Rattle.search.proofs.AnswerLaws.{answered-runs, answer-whole}
+use Rattle.search.proofs.AnswerRuns.{answers-goal}
 use Rattle.search.specs.Furthest.{Figures}
 use Rattle.words.specs.Held.{FormulasIn}
 use Rattle.format.specs.Format.{encode_goal}

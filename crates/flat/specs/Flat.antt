@@ -3,7 +3,7 @@ use Rattle.std.specs.Prelude.{ℕ, List, [], ◌∷◌}
 use Rattle.terms.specs.Node.{Symbol, constant, compound, predicate, sym, Expr}
 use Rattle.terms.specs.Row.{Row, Every}
 use Rattle.terms.specs.Substitution.{Symbols}
-use Rattle.loops.specs.Finite.{Listed}
+use Rattle.loops.proofs.Finite.{Listed}
 use Rattle.search.specs.Next.{Book, Goal}
 
 -- the symbols of arguments: of these constants, no compound term

@@ -11,10 +11,10 @@ use Rattle.terms.specs.Substitution.{Symbols}
 use Rattle.terms.specs.Rename.{rename}
 use Rattle.terms.specs.RenameLaws.{rename-row}
 use Rattle.terms.specs.Number.{number_all}
-use Rattle.terms.specs.NumberLaws.{every-number}
+use Rattle.terms.proofs.NumberLaws.{every-number}
 use Rattle.terms.specs.Unify.{unify}
-use Rattle.terms.specs.UnifyLaws.{unify-sound}
-use Rattle.terms.specs.FoundLaws.{MadeOf, heads-found}
+use Rattle.terms.proofs.UnifyLaws.{unify-sound}
+use Rattle.terms.proofs.FoundLaws.{MadeOf, heads-found}
 use Rattle.loops.specs.Path.{path-zero, path-back}
 use Rattle.search.specs.Next.{Book, Goal}
 use Rattle.search.specs.Step.{even, odd, Choice, later, meet, choice, move, goal_in, next_goal}

@@ -2,8 +2,4 @@
 -- passes a primitive cyclic goal (Theorem).
 pub mod Flat
 pub mod FlatLaws
-pub mod Formulas
-pub mod Theorem
-pub mod Closing
-pub mod Bound
 pub mod Doubling

@@ -5,14 +5,14 @@ use Rattle.std.proofs.Common.{arith, sym as inv, ap, ◌∙◌, subst}
 use Rattle.std.proofs.Math.Decide.{ℕ_discrete}
 use Rattle.std.proofs.Math.Option.{some}
 use Rattle.terms.specs.Node.{Expr}
-use Rattle.loops.specs.Finite.{Listed}
+use Rattle.loops.proofs.Finite.{Listed}
 use Rattle.search.specs.Next.{Book, Goal}
 use Rattle.search.specs.Run.{Closed, run, goal_at}
 use Rattle.search.specs.Answer.{Answered}
-use Rattle.search.specs.AnswerLaws.{answered-runs}
-use Rattle.search.specs.AnswerRuns.{answered-run}
+use Rattle.search.proofs.AnswerLaws.{answered-runs}
+use Rattle.search.proofs.AnswerRuns.{answered-run}
 use Rattle.flat.specs.Flat.{FlatGoal}
-use Rattle.flat.specs.Closing.{Settled, settled_20, settled_21, settled_22, settled_26}
+use Rattle.flat.proofs.Closing.{Settled, settled_20, settled_21, settled_22, settled_26}
 use Rattle.format.specs.declared.Check.{Check}
 use Rattle.format.specs.Reading.{query_verdict}
 use Rattle.format.specs.Arities.{Use, book_uses, goal_uses}

@@ -10,18 +10,18 @@ use lib.Dec.{eqb}
 use Rattle.terms.specs.Node.{Symbol, constant, compound, predicate, arity, var, sym, Expr}
 use Rattle.terms.specs.Row.{Row, row_end, row_var, row_sym}
 use Rattle.terms.specs.Substitution.{Symbols}
-use Rattle.loops.specs.Finite.{Listed}
+use Rattle.loops.proofs.Finite.{Listed}
 use Rattle.search.specs.Next as Next
 use Rattle.search.specs.Run.{run, goal_at, Roomy}
 use Rattle.words.specs.Flat.{flat}
 use Rattle.flat.specs.Flat.{ConstantOf, Flat, FlatGoal, IsFlatBook}
 use Rattle.flat.specs.FlatLaws.{path-flat}
-use Rattle.flat.specs.Formulas.{listed-left, listed-right, listed-map}
-use Rattle.flat.specs.Formulas.{formulas}
-use Rattle.flat.specs.Bound.{formulas-few}
-use Rattle.flat.specs.Theorem.{leftmost}
-use Rattle.flat.specs.Closing as Closing
-use Rattle.flat.specs.Closing.{Settled}
+use Rattle.flat.proofs.Formulas.{listed-left, listed-right, listed-map}
+use Rattle.flat.proofs.Formulas.{formulas}
+use Rattle.flat.proofs.Bound.{formulas-few}
+use Rattle.flat.proofs.Theorem.{leftmost}
+use Rattle.flat.proofs.Closing as Closing
+use Rattle.flat.proofs.Closing.{Settled}
 use Rattle.format.specs.declared.Form.TheVariants.{Book}
 use Rattle.format.specs.Format.{Terms, terms_none, terms_var, terms_constant, terms_compound, IsFormula, formula, AreFormulas, GoodClauses, GoodBook, GoodGoal, Bytes}
 use Rattle.format.specs.Arities.{Use, use_of, node_uses, goal_uses, book_uses}

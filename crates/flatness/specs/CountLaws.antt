@@ -3,7 +3,7 @@ use Rattle.std.specs.Prelude.{ℕ, suc, ◌≤◌, ◌≡◌, refl, ◌↔◌, B
 use Rattle.std.proofs.Common.{arith, eq-eqb, eqb-true, sym as inv, ap, subst, ◌∙◌, inl, inr}
 use Rattle.std.proofs.lemmas.List.{length-map}
 use Rattle.terms.specs.Cases.{cases}
-use Rattle.loops.specs.Finite.{Listed}
+use Rattle.loops.proofs.Finite.{Listed}
 use Rattle.search.specs.Next as Next
 use Rattle.format.specs.Arities.{Use, Used, OneArity, book_uses}
 use Rattle.flatness.specs.Counts.{Apart, Count, among, distinct, same_use, constants_in, book_predicates, book_constants}

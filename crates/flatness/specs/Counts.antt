@@ -2,7 +2,7 @@
 use Rattle.std.specs.Prelude.{ℕ, ◌≡◌, ◌↔◌, Bool, false, ◌&&◌, ◌||◌, List, [], ◌∷◌, ◌++◌, length, eqb}
 use Rattle.terms.specs.Node.{constant, compound, predicate, var, sym, Expr}
 use Rattle.terms.specs.When.{◌⇒◌∣◌}
-use Rattle.loops.specs.Finite.{Listed}
+use Rattle.loops.proofs.Finite.{Listed}
 use Rattle.search.specs.Next as Next
 use Rattle.words.specs.Flat.{flat}
 use Rattle.format.specs.Arities.{Use, book_uses}

@@ -11,7 +11,7 @@ use lib.Dec.{eqb, ltb}
 use Rattle.terms.specs.Node.{var, sym, Expr}
 use Rattle.terms.specs.Cases.{cases}
 use Rattle.terms.specs.Number.{place, within, grow, seen_after, number, number_all, Numbered}
-use Rattle.terms.specs.NumberLaws.{number-length, place-last}
+use Rattle.terms.proofs.NumberLaws.{number-length, place-last}
 use Rattle.search.specs.Next.{Goal}
 use Rattle.words.specs.Flat.{flat, flat-number}
 use Rattle.format.specs.Reading.{next_unused}

@@ -4,7 +4,7 @@ use Rattle.std.proofs.Common.{arith, sym as inv, ap, ◌∙◌, subst, append-ni
 use Rattle.std.proofs.lemmas.List.{map-append}
 use Rattle.terms.specs.Node.{Expr}
 use Rattle.terms.specs.Number.{seen_after, number}
-use Rattle.terms.specs.NumberLaws.{seen-append, number_append}
+use Rattle.terms.proofs.NumberLaws.{seen-append, number_append}
 use Rattle.words.specs.Word.{Fit, Fits, node, nodes}
 use Rattle.words.specs.WordLaws.{each_append, each_make}
 use Rattle.numbering.specs.Naming.{table, back, Table, Named, NamedAt}

@@ -10,7 +10,7 @@ use Rattle.terms.specs.Row.{Row, Atom, Every}
 use Rattle.terms.specs.RowLaws.{row-long as as_long}
 use Rattle.terms.specs.Subst.{In, apply}
 use Rattle.terms.specs.Number.{seen_after, seen_all, number}
-use Rattle.terms.specs.NumberLaws.{seen-append, number_append, number-length}
+use Rattle.terms.proofs.NumberLaws.{seen-append, number_append, number-length}
 use Rattle.search.specs.Next.{Goal}
 use Rattle.words.specs.Word.{Fit, Fits, node, nodes}
 use Rattle.words.specs.WordLaws.{each_take, each-drop, nodes-take, nodes-drop, in_words, in-fits}

@@ -15,7 +15,7 @@ use Rattle.terms.specs.Subst.{In, apply, itself}
 use Rattle.terms.specs.SubstLaws.{apply-itself}
 use Rattle.terms.specs.Cases.{cases}
 use Rattle.terms.specs.Number.{place, within, grow, number, number_all}
-use Rattle.terms.specs.NumberLaws.{within-last}
+use Rattle.terms.proofs.NumberLaws.{within-last}
 use Rattle.terms.specs.Argument.{firsts}
 use Rattle.search.specs.Next.{Goal}
 use Rattle.words.specs.Word.{Fit, Fits, Valids, node, nodes}

@@ -10,7 +10,7 @@ use Rattle.terms.specs.RowLaws.{row-long}
 use Rattle.terms.specs.Subst.{Subst, apply}
 use Rattle.terms.specs.SubstLaws.{apply-row}
 use Rattle.terms.specs.Number.{number, seen_after}
-use Rattle.terms.specs.NumberLaws.{number_append, number-length}
+use Rattle.terms.proofs.NumberLaws.{number_append, number-length}
 use Rattle.words.specs.Word.{kind_of, Plain, Valid, Valids, node, nodes}
 use Rattle.words.specs.WordLaws.{node-var, node-sym, nodes-drop}
 use Rattle.words.specs.PackLaws.{node_inj}

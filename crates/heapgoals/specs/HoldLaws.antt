@@ -7,7 +7,7 @@ use Rattle.std.proofs.lemmas.List.{length-map}
 use Rattle.terms.specs.Node.{Expr}
 use Rattle.terms.specs.Subst.{In, InAny, apply, itself}
 use Rattle.terms.specs.Number.{seen_all, number, number_all}
-use Rattle.terms.specs.NumberLaws.{number-all-append, number-all-length}
+use Rattle.terms.proofs.NumberLaws.{number-all-append, number-all-length}
 use Rattle.search.specs.Next.{Goal}
 use Rattle.words.specs.Flat.{flat, flat_append, flat-apply}
 use Rattle.heap.specs.Heap.{rows, Whole, bound}

@@ -9,9 +9,9 @@ use Rattle.terms.specs.Node.{Expr}
 use Rattle.terms.specs.Row.{Row}
 use Rattle.search.specs.Next.{Clause, Book, Goal, clause_at}
 use Rattle.search.specs.Fail.{failing}
-use Rattle.search.specs.FailLaws.{Failing, other, meets, fails, failing-says}
+use Rattle.search.proofs.FailLaws.{Failing, other, meets, fails, failing-says}
 use Rattle.search.specs.Furthest.{Figures, furthest, stuck_figures, figures, figures_22, figures-other}
-use Rattle.search.specs.FurthestLaws.{Best, furthest-best}
+use Rattle.search.proofs.FurthestLaws.{Best, furthest-best}
 use Rattle.words.specs.Held.{GoalIn, BookOn}
 use Rattle.words.specs.HeldLaws.{first-length}
 use Rattle.outcomes.specs.Stuck.{arguments-fit}

@@ -10,10 +10,10 @@ use Rattle.terms.specs.Renaming.{Renaming}
 use Rattle.search.specs.Next.{Book, Goal}
 use Rattle.search.specs.Resolution.{AtomicClauses, Atomics}
 use Rattle.search.specs.Answer.{Answered, Answers}
-use Rattle.search.specs.AnswerLaws.{answered-runs}
-use Rattle.search.specs.AnswerRuns.{answers-goal}
+use Rattle.search.proofs.AnswerLaws.{answered-runs}
+use Rattle.search.proofs.AnswerRuns.{answers-goal}
 use Rattle.search.specs.Derivation.{Derivation, Follows}
-use Rattle.search.specs.FollowsLaws.{derivation-answer, answer_instance, solved-follows}
+use Rattle.search.proofs.FollowsLaws.{derivation-answer, answer_instance, solved-follows}
 use Rattle.format.specs.Format.{encode_goal, Bytes}
 use Rattle.format.specs.Decode.{book_of, goal_of}
 use Rattle.areas.specs.GoodGoals.{book-atomic, goal-atomics}

@@ -11,12 +11,12 @@ use Rattle.search.specs.Known.{Known}
 use Rattle.search.specs.KnownLaws.{AtomHeads}
 use Rattle.search.specs.Furthest.{Figures, no_figures, Furthest, furthest, stuck_figures, figures, figures_22, figures-other}
 use Rattle.search.specs.Told.{TooBig}
-use Rattle.search.specs.TestLaws.{big_iff}
+use Rattle.search.proofs.TestLaws.{big_iff}
 use Rattle.search.specs.Single.{Single, not_taken}
 use Rattle.search.specs.Single as Single
 use Rattle.search.specs.Pick.{Pick, no_pick, pick, Picks, stuck_22, unknown_26, chosen_25, apply_by, Applies, absent_32, apart_33, full_24, taken_25}
 use Rattle.search.specs.Pick as Pick
-use Rattle.search.specs.PickLaws.{pick_iff, apply_iff}
+use Rattle.search.proofs.PickLaws.{pick_iff, apply_iff}
 use Rattle.format.specs.Format.{encode_goal, Bytes}
 use Rattle.format.specs.Decode.{book_of, goal_of}
 use Rattle.format.proofs.Premises.{book-clauses, goal_premises}

@@ -9,7 +9,7 @@ use Rattle.search.specs.Room.{fits}
 use Rattle.search.specs.Furthest.{Figures, no_figures, figures, figures-other}
 use Rattle.search.specs.Single.{Single, not_taken, if_fits, step}
 use Rattle.search.specs.Pick.{pick, applied, apply_by}
-use Rattle.search.specs.PickLaws.{two_calls}
+use Rattle.search.proofs.PickLaws.{two_calls}
 use Rattle.format.specs.Decode.{book_of, goal_of}
 use Rattle.outcomes.specs.declared.admit.Admitted.{Admitted}
 use Rattle.outcomes.specs.declared.Picked.{Picked}

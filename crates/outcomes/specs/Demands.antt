@@ -9,12 +9,12 @@ use Rattle.search.specs.Next.{Book, Goal, Clauses}
 use Rattle.search.specs.Run.{Closed, run, goal_at, Roomy}
 use Rattle.search.specs.Cycle.{Cyclic}
 use Rattle.search.specs.Codes.{Looping}
-use Rattle.search.specs.Shortest.{Shortest, span-shortest}
+use Rattle.search.proofs.Shortest.{Shortest, span-shortest}
 use Rattle.search.specs.Answer.{Answered, closed, Slim, Answers}
-use Rattle.search.specs.AnswerLaws.{answered-runs}
-use Rattle.search.specs.AnswerRuns.{answered-run}
+use Rattle.search.proofs.AnswerLaws.{answered-runs}
+use Rattle.search.proofs.AnswerRuns.{answered-run}
 use Rattle.search.specs.AnswerTold.{SaysWith}
-use Rattle.search.specs.AnswerTheorem.{loop-means-answered, loop-in_time_answered, answered-says}
+use Rattle.search.proofs.AnswerTheorem.{loop-means-answered, loop-in_time_answered, answered-says}
 use Rattle.format.specs.Format.{encode_goal, Bytes}
 use Rattle.format.specs.Decode.{book_of, goal_of}
 use Rattle.format.proofs.Premises.{book-clauses, goal_premises}

@@ -9,8 +9,8 @@ use Rattle.search.specs.Step.{next_goal}
 use Rattle.search.specs.Room.{fits, fits_iff}
 use Rattle.search.specs.Run.{goal_at, Closes, code_20, code_21, code_22, code_23, code_24, code_26}
 use Rattle.search.specs.Answer.{Answered, answered, Ends, as_before, code_27, Answers}
-use Rattle.search.specs.AnswerLaws.{answered-runs}
-use Rattle.search.specs.AnswerRuns.{answers-goal}
+use Rattle.search.proofs.AnswerLaws.{answered-runs}
+use Rattle.search.proofs.AnswerRuns.{answers-goal}
 use Rattle.words.specs.Flat.{flat, flat-size}
 use Rattle.format.specs.Reading.{book_verdict, query_verdict}
 use Rattle.format.specs.Format.{encode_goal, Bytes}

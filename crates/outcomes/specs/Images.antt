@@ -5,7 +5,7 @@ use Rattle.std.proofs.Common.{arith, ap, ap₂, ◌∙◌, subst}
 use Rattle.search.specs.Next.{Book, Goal}
 use Rattle.search.specs.Answer.{Answered, answered}
 use Rattle.search.specs.AnswerTold.{ToldWith}
-use Rattle.search.specs.AnswerToldLaws.{answered-told}
+use Rattle.search.proofs.AnswerToldLaws.{answered-told}
 use Rattle.search.specs.Single.{Single, step}
 use Rattle.search.specs.Furthest.{no_figures}
 use Rattle.search.specs.Pick.{pick, apply_by}

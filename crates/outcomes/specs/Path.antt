@@ -9,13 +9,13 @@ use Rattle.loops.specs.Path.{path-zero}
 use Rattle.search.specs.Next.{Book, Goal, Next}
 use Rattle.search.specs.Step.{next_goal}
 use Rattle.search.specs.Run.{goal_at, Roomy}
-use Rattle.search.specs.PathLaws.{path-next}
+use Rattle.search.proofs.PathLaws.{path-next}
 use Rattle.search.specs.Single.{Single, not_taken, Steps, solved_20, stuck_22, full_24, unknown_26}
-use Rattle.search.specs.SingleLaws.{step_iff}
-use Rattle.search.specs.TestLaws.{big_iff}
+use Rattle.search.proofs.SingleLaws.{step_iff}
+use Rattle.search.proofs.TestLaws.{big_iff}
 use Rattle.search.specs.Furthest.{Figures}
 use Rattle.search.specs.Resolution.{Derived}
-use Rattle.search.specs.ResolutionLaws.{derived_iff}
+use Rattle.search.proofs.ResolutionLaws.{derived_iff}
 use Rattle.format.specs.declared.Check.{Check}
 use Rattle.format.specs.Reading.{book_verdict, query_verdict}
 use Rattle.format.specs.Arities.{Suits}

@@ -12,18 +12,18 @@ use Rattle.search.specs.Room.{fits}
 use Rattle.search.specs.Run.{goal_at, Roomy}
 use Rattle.search.specs.Cycle.{CyclicFormula}
 use Rattle.search.specs.Told.{TooBig}
-use Rattle.search.specs.PathLaws.{path-formulas}
+use Rattle.search.proofs.PathLaws.{path-formulas}
 use Rattle.search.specs.Known.{Known}
 use Rattle.search.specs.KnownLaws.{AtomHeads}
 use Rattle.search.specs.Furthest.{Figures, no_figures, Furthest, furthest, stuck_figures, figures, figures_22, figures-other}
 use Rattle.search.specs.Codes.{Says, solved_20, loop_21, stuck_22, spent_23, full_24, unknown_26}
 use Rattle.search.specs.Answer.{Answered, closed, Carries, Answers, Slim}
-use Rattle.search.specs.AnswerLaws.{answered-runs}
-use Rattle.search.specs.AnswerRuns.{answers-goal}
-use Rattle.search.specs.CarryLaws.{carries_iff}
+use Rattle.search.proofs.AnswerLaws.{answered-runs}
+use Rattle.search.proofs.AnswerRuns.{answers-goal}
+use Rattle.search.proofs.CarryLaws.{carries_iff}
 use Rattle.search.specs.AnswerTold.{NextWith, TooLong, ToldWith, SaysWith, says_20_to_26, full_27}
-use Rattle.search.specs.AnswerToldLaws.{answered-told}
-use Rattle.search.specs.AnswerTheorem.{answered-says}
+use Rattle.search.proofs.AnswerToldLaws.{answered-told}
+use Rattle.search.proofs.AnswerTheorem.{answered-says}
 use Rattle.format.specs.Format.{encode_goal, Bytes}
 use Rattle.format.specs.Decode.{book_of, goal_of}
 use Rattle.format.proofs.Premises.{book-clauses, goal_premises}

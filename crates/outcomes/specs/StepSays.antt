@@ -13,9 +13,9 @@ use Rattle.search.specs.Known.{Known}
 use Rattle.search.specs.KnownLaws.{AtomHeads}
 use Rattle.search.specs.Furthest.{Figures, no_figures, Furthest, furthest, stuck_figures, figures, figures_22, figures-other}
 use Rattle.search.specs.Told.{TooBig}
-use Rattle.search.specs.TestLaws.{big_iff}
+use Rattle.search.proofs.TestLaws.{big_iff}
 use Rattle.search.specs.Single.{Single, not_taken, taken, step, Steps, solved_20, stuck_22, unknown_26, full_24, taken_25}
-use Rattle.search.specs.SingleLaws.{step_iff}
+use Rattle.search.proofs.SingleLaws.{step_iff}
 use Rattle.format.specs.Format.{encode_goal, Bytes}
 use Rattle.format.specs.Decode.{book_of, goal_of}
 use Rattle.format.proofs.Premises.{book-clauses, goal_premises}

@@ -12,8 +12,8 @@ use Rattle.search.specs.Known.{stuck_code, stuck-not_25}
 use Rattle.search.specs.Single.{if_fits, single, step}
 use Rattle.search.specs.Run.{goal_at, Roomy}
 use Rattle.search.specs.Answer.{answered}
-use Rattle.search.specs.AnswerLaws.{answered-runs}
-use Rattle.search.specs.AnswerRuns.{answers-goal}
+use Rattle.search.proofs.AnswerLaws.{answered-runs}
+use Rattle.search.proofs.AnswerRuns.{answers-goal}
 use Rattle.format.specs.Format.{GoodBook, GoodGoal, encode_book, encode_goal}
 use Rattle.format.specs.Arities.{Suits}
 use Rattle.areas.specs.GoodGoals.{path-good}

@@ -9,7 +9,7 @@ use Rattle.search.specs.Next.{Book, Clauses, NoneMeets}
 use Rattle.search.specs.Known.{Alike, Known}
 use Rattle.search.specs.KnownLaws.{AtomHeads}
 use Rattle.search.specs.Furthest.{Figures, Furthest, furthest}
-use Rattle.search.specs.FurthestLaws.{furthest-says, furthest-one}
+use Rattle.search.proofs.FurthestLaws.{furthest-says, furthest-one}
 use Rattle.format.specs.Format.{IsFormula, formula, GoodClauses, GoodBook}
 
 formula-atom : {f : Expr} → IsFormula f → Atom f

@@ -12,7 +12,7 @@ use Rattle.search.specs.KnownLaws.{AtomHeads}
 use Rattle.search.specs.Run.{goal_at}
 use Rattle.search.specs.Pick as Pick
 use Rattle.search.specs.Pick.{Pick, pick}
-use Rattle.search.specs.PickLaws.{pick_iff}
+use Rattle.search.proofs.PickLaws.{pick_iff}
 use Rattle.search.specs.Furthest.{Figures, Furthest, stuck_figures, figures, figures_22, figures-other}
 use Rattle.format.specs.Format.{Bytes}
 use Rattle.format.specs.Decode.{book_of, goal_of}

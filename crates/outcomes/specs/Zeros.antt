@@ -4,8 +4,8 @@
 use Rattle.std.specs.Prelude.{ℕ, ◌≤◌, ◌<◌, ◌≡◌, List, length}
 use Rattle.std.proofs.Common.{arith, sym as inv, ap, ◌∙◌}
 use Rattle.std.proofs.Math.Decide.{ℕ_discrete}
-use Rattle.search.specs.AnswerLaws.{answered-runs}
-use Rattle.search.specs.AnswerRuns.{answers-span}
+use Rattle.search.proofs.AnswerLaws.{answered-runs}
+use Rattle.search.proofs.AnswerRuns.{answers-span}
 use Rattle.format.specs.Decode.{book_of, goal_of}
 use Rattle.outcomes.specs.declared.Answer.{Answer}
 use Rattle.outcomes.specs.declared.Stepped.{Stepped}

@@ -8,9 +8,9 @@ use Rattle.terms.specs.SubstLaws.{in-apply, map_same}
 use Rattle.terms.specs.Rename.{rename, InjectiveOn, Apart}
 use Rattle.terms.specs.RenameLaws.{in-any-rename, rename_idle, rename-rename, rename-apply}
 use Rattle.terms.specs.Number.{place, seen_all, number_all}
-use Rattle.terms.specs.NumberLaws.{get_d_place, in-seen-all, number-all-is-rename}
+use Rattle.terms.proofs.NumberLaws.{get_d_place, in-seen-all, number-all-is-rename}
 use Rattle.search.specs.Next.{Clause, Goal, resolvent, Resolved}
-use Rattle.search.specs.NextLaws.{resolved-one}
+use Rattle.search.proofs.NextLaws.{resolved-one}
 use Rattle.applying.specs.Applying.{Onward}
 use Rattle.applying.proofs.Onwards.{onward}
 

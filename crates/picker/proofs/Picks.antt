@@ -8,7 +8,7 @@ use Rattle.search.specs.Next.{Book, Goal, First, clause_at}
 use Rattle.search.specs.Furthest.{Figures, no_figures, figures, figures_22, figures-other}
 use Rattle.search.specs.Pick.{Pick, no_pick, pick, chosen_25}
 use Rattle.search.specs.Pick as Pick
-use Rattle.search.specs.PickLaws.{pick_iff}
+use Rattle.search.proofs.PickLaws.{pick_iff}
 use Rattle.words.specs.Held.{GoalIn, BookOn}
 use Rattle.words.specs.HeldLaws.{clauses-of}
 use Rattle.resolve.specs.declared.Choice.{Choice}

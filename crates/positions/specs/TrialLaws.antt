@@ -9,7 +9,7 @@ use Rattle.terms.specs.Row.{Row, row_end, row_var}
 use Rattle.terms.specs.RowLaws.{row-append, row_unique, first-row}
 use Rattle.terms.specs.Subst.{Subst, apply, itself, Proper, Unifies, MostGeneral}
 use Rattle.terms.specs.Argument.{firsts, Unifiable, ClashesAt, clash}
-use Rattle.terms.specs.ArgumentLaws.{Tried, tried-clash}
+use Rattle.terms.proofs.ArgumentLaws.{Tried, tried-clash}
 use Rattle.words.specs.Word.{kind_of, arity_of, Plain, Valids, node, nodes}
 use Rattle.positions.specs.Words.{child, Terms, terms_end, terms_more, Ends}
 use Rattle.positions.specs.Steps.{Args}

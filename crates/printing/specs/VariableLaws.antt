@@ -5,7 +5,7 @@ use Rattle.std.proofs.lemmas.Bool.{eqb-false}
 use Rattle.terms.specs.Node.{constant, compound, predicate, var, sym, Expr}
 use Rattle.terms.specs.Cases.{cases}
 use Rattle.terms.specs.Number.{place, within, grow, seen_after}
-use Rattle.terms.specs.NumberLaws.{place-last}
+use Rattle.terms.proofs.NumberLaws.{place-last}
 use Rattle.format.specs.Format.{Terms, terms_none, terms_var, terms_constant, terms_compound, formula, IsFormula}
 use Rattle.grammar.specs.Names as Names
 use Rattle.grammar.specs.Names.{same_name, with_variable, variables_after}

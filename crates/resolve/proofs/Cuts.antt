@@ -10,8 +10,8 @@ use Rattle.terms.specs.Node.{Expr}
 use Rattle.search.specs.Next.{Book, Goal, Clauses, First, NoneMeets, Resolved, no_clause, clause_at}
 use Rattle.search.specs.Step.{stuck, to, next}
 use Rattle.search.specs.Answer.{small}
-use Rattle.search.specs.NextLaws.{next_iff, stuck_iff}
-use Rattle.search.specs.SingleLaws.{clauses-drop}
+use Rattle.search.proofs.NextLaws.{next_iff, stuck_iff}
+use Rattle.search.proofs.SingleLaws.{clauses-drop}
 use Rattle.words.specs.Columns.{every, every-length, every-at}
 use Rattle.words.specs.Held.{GoalIn, Placed, starts, heads, bodies, BookOn}
 use Rattle.words.specs.HeldLaws.{clauses-of}

@@ -10,7 +10,7 @@ use Rattle.search.specs.Next.{Book, NoneMeets, clause_at}
 use Rattle.search.specs.Known.{Known, known?}
 use Rattle.search.specs.KnownLaws.{AtomHeads}
 use Rattle.search.specs.Furthest.{Figures, Furthest, furthest}
-use Rattle.search.specs.FurthestLaws.{furthest-says, unknown-figures}
+use Rattle.search.proofs.FurthestLaws.{furthest-says, unknown-figures}
 use Rattle.words.specs.Held.{GoalIn, BookIn, BookOn}
 use Rattle.words.specs.HeldLaws.{clauses-of}
 

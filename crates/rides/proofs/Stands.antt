@@ -8,8 +8,8 @@ use lib.Seq.{length-take-le}
 use Rattle.terms.specs.Number.{Numbered}
 use Rattle.search.specs.Next.{Book, Goal}
 use Rattle.search.specs.Answer.{answer_at}
-use Rattle.search.specs.AnswerLaws.{answer-whole}
-use Rattle.search.specs.RunLaws.{state-sound}
+use Rattle.search.proofs.AnswerLaws.{answer-whole}
+use Rattle.search.proofs.RunLaws.{state-sound}
 use Rattle.words.specs.Held.{GoalIn, RowIn}
 use Rattle.words.specs.HeldLaws.{row_of}
 use Rattle.matching.specs.TrialLaws.{Free}

@@ -17,10 +17,10 @@ use Rattle.search.specs.Room.{fits}
 use Rattle.search.specs.Known.{Knows}
 use Rattle.search.specs.Furthest.{Figures, no_figures, stuck_figures, figures, figures_22, figures-other}
 use Rattle.search.specs.Run.{verdict, Closes, code_20, code_21, code_22, code_23, code_24, code_26}
-use Rattle.search.specs.RunLaws.{state-sound}
+use Rattle.search.proofs.RunLaws.{state-sound}
 use Rattle.search.specs.Answer as Answer
 use Rattle.search.specs.Answer.{small, next_answer, answer_at, close_with, as_before, code_27}
-use Rattle.search.specs.AnswerLaws.{answer-next, ending, answered_iff}
+use Rattle.search.proofs.AnswerLaws.{answer-next, ending, answered_iff}
 use Rattle.words.specs.Held.{GoalIn}
 use Rattle.detector.specs.declared.Detector.{Detector}
 use Rattle.detector.specs.declared.Verdict.{Verdict}

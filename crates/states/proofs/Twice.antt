@@ -8,7 +8,7 @@ use Rattle.terms.specs.Node.{var, sym, Expr}
 use Rattle.terms.specs.Subst.{In, InAny}
 use Rattle.terms.specs.Rename.{rename}
 use Rattle.terms.specs.Number.{place, within, grow, seen_after, seen_all, number_all, Numbered}
-use Rattle.terms.specs.NumberLaws.{number-all-append, number-all-is-rename, in-seen-all}
+use Rattle.terms.proofs.NumberLaws.{number-all-append, number-all-is-rename, in-seen-all}
 
 module _ (seen : List ℕ) where
   nothing-new : (e : Expr) → ((v : ℕ) → In v e → within v seen ≡ true) → seen_after seen e ≡ seen

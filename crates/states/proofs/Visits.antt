@@ -19,9 +19,9 @@ use Rattle.search.specs.Step.{next_goal}
 use Rattle.search.specs.StepLaws.{next-numbered}
 use Rattle.search.specs.Room.{fits}
 use Rattle.search.specs.Answer.{small, next_answer, answer_at, Slim}
-use Rattle.search.specs.AnswerLaws.{answer-next, answer-whole, slimmer}
+use Rattle.search.proofs.AnswerLaws.{answer-next, answer-whole, slimmer}
 use Rattle.search.specs.Run.{state_at, Roomy}
-use Rattle.search.specs.RunLaws.{state-sound, state-next}
+use Rattle.search.proofs.RunLaws.{state-sound, state-next}
 use Rattle.words.specs.Word.{Fits, nodes}
 use Rattle.words.specs.Held.{FormulasIn, RowIn}
 use Rattle.words.specs.HeldLaws.{row-goal, row-answer, row_of}

@@ -13,13 +13,13 @@ use Rattle.search.specs.Next.{Book, Goal}
 use Rattle.search.specs.Step.{next, next_goal}
 use Rattle.search.specs.Room.{nodes, fits, fits_iff}
 use Rattle.search.specs.Run.{goal_at}
-use Rattle.search.specs.NextLaws.{next_iff}
-use Rattle.search.specs.PathLaws.{step-goal}
+use Rattle.search.proofs.NextLaws.{next_iff}
+use Rattle.search.proofs.PathLaws.{step-goal}
 use Rattle.search.specs.Answer.{Answered, answer_at, Answers}
-use Rattle.search.specs.AnswerLaws.{small_iff, answer-zero, answered-runs}
-use Rattle.search.specs.AnswerRuns.{answers-goal}
-use Rattle.search.specs.AnswerGoals.{answer-every, both-numbered}
-use Rattle.search.specs.FollowsLaws.{answer_instance}
+use Rattle.search.proofs.AnswerLaws.{small_iff, answer-zero, answered-runs}
+use Rattle.search.proofs.AnswerRuns.{answers-goal}
+use Rattle.search.proofs.AnswerGoals.{answer-every, both-numbered}
+use Rattle.search.proofs.FollowsLaws.{answer_instance}
 use Rattle.loops.specs.Path.{path-zero}
 use Rattle.words.specs.Flat.{flat, flat-size, flat_append}
 use Rattle.format.specs.Format.{Terms, terms_none, terms_var, terms_constant, terms_compound, IsFormula, formula, AreFormulas, Below, GoodBook, GoodGoal, encode_goal, Bytes}

@@ -10,7 +10,7 @@ use Rattle.terms.specs.Node.{Expr}
 use Rattle.terms.specs.Subst.{InAny, Subst, apply, itself}
 use Rattle.terms.specs.SubstLaws.{apply-on, map_same}
 use Rattle.terms.specs.Rename.{rename}
-use Rattle.terms.specs.NumberLaws.{number-length}
+use Rattle.terms.proofs.NumberLaws.{number-length}
 use Rattle.search.specs.Next.{Clause, Goal}
 use Rattle.search.specs.Room.{nodes}
 use Rattle.words.specs.Word.{Fits, nodes as heap-nodes}

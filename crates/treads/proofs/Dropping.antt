@@ -12,8 +12,8 @@ use Rattle.terms.specs.SubstLaws.{apply-itself}
 use Rattle.terms.specs.Rename.{rename}
 use Rattle.terms.specs.RenameLaws.{in-any-rename}
 use Rattle.terms.specs.Number.{place, seen_after, number_all, Numbered}
-use Rattle.terms.specs.NumberLaws.{number-is-rename, numbered-beginning}
-use Rattle.terms.specs.VariantLaws.{number-all_idempotent}
+use Rattle.terms.proofs.NumberLaws.{number-is-rename, numbered-beginning}
+use Rattle.terms.proofs.VariantLaws.{number-all_idempotent}
 use Rattle.search.specs.Next.{Clause, Book, Goal, Resolved, clause_at}
 use Rattle.search.specs.Answer.{small}
 use Rattle.words.specs.Word.{Valids}

@@ -13,9 +13,9 @@ use Rattle.terms.specs.Subst.{Subst, apply}
 use Rattle.terms.specs.Rename.{rename}
 use Rattle.terms.specs.RenameLaws.{rename-row}
 use Rattle.terms.specs.Number.{number_all}
-use Rattle.terms.specs.NumberLaws.{number-all-length, number-length}
+use Rattle.terms.proofs.NumberLaws.{number-all-length, number-length}
 use Rattle.search.specs.Next.{Clause, Goal}
-use Rattle.search.specs.NextLaws.{resolved-formulas, resolved-atoms}
+use Rattle.search.proofs.NextLaws.{resolved-formulas, resolved-atoms}
 use Rattle.search.specs.Room.{nodes, fits}
 use Rattle.search.specs.Answer.{small}
 use Rattle.words.specs.Word.{node, nodes as heap-nodes}

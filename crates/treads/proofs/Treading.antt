@@ -11,10 +11,10 @@ use borrow.Rule.Slice.PartMut.{put_mid, same_len_mid}
 use Rattle.terms.specs.Node.{Expr}
 use Rattle.terms.specs.Row.{Row, Every, Formulas}
 use Rattle.search.specs.Next.{Clause, Book, Goal, First, Resolved, clause_at}
-use Rattle.search.specs.NextLaws.{next_iff}
+use Rattle.search.proofs.NextLaws.{next_iff}
 use Rattle.search.specs.Step.{to, next, goal_in, next_goal}
 use Rattle.search.specs.Answer.{small, next_answer}
-use Rattle.search.specs.AnswerLaws.{last-behind}
+use Rattle.search.proofs.AnswerLaws.{last-behind}
 use Rattle.words.specs.Held.{Placed, BookOn}
 use Rattle.words.specs.HeldLaws.{clauses-of}
 use Rattle.picking.specs.Picking.{Picked}

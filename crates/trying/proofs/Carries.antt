@@ -8,7 +8,7 @@ use lib.ListN.{length, take, length-append}
 use Rattle.terms.specs.Node.{Expr}
 use Rattle.terms.specs.Subst.{In, Subst, apply}
 use Rattle.terms.specs.Number.{number, within, seen_after}
-use Rattle.terms.specs.NumberLaws.{number_append}
+use Rattle.terms.proofs.NumberLaws.{number_append}
 use Rattle.words.specs.Word.{Fits, nodes}
 use Rattle.words.specs.WordLaws.{in-fits}
 use Rattle.numbering.specs.Naming.{table, back, Table}

@@ -11,7 +11,7 @@ use Rattle.terms.specs.Subst.{In, Subst, apply, MostGeneral}
 use Rattle.terms.specs.SubstLaws.{apply-append}
 use Rattle.terms.specs.Rename.{rename, Apart}
 use Rattle.terms.specs.Number.{number, seen_after}
-use Rattle.terms.specs.NumberLaws.{number-length}
+use Rattle.terms.proofs.NumberLaws.{number-length}
 use Rattle.search.specs.Next.{Clause, Goal, Resolved}
 use Rattle.search.specs.Room.{fits}
 use Rattle.search.specs.Answer.{small}

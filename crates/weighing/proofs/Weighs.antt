@@ -14,9 +14,9 @@ use Rattle.terms.specs.Argument.{clash}
 use Rattle.search.specs.Next.{Clause, Book, clause_at}
 use Rattle.search.specs.Known.{symbol_for, Alike}
 use Rattle.search.specs.Fail.{failing_between, failing}
-use Rattle.search.specs.FailLaws.{failing-named}
+use Rattle.search.proofs.FailLaws.{failing-named}
 use Rattle.search.specs.Furthest.{Figures, furthest}
-use Rattle.search.specs.FurthestLaws.{Best, best-keep, best-take, furthest-is, unlike_failing}
+use Rattle.search.proofs.FurthestLaws.{Best, best-keep, best-take, furthest-is, unlike_failing}
 use Rattle.words.specs.Word.{kind_of, arity_of, nodes}
 use Rattle.words.specs.Flat.{flat}
 use Rattle.words.specs.WordLaws.{node_pred}

@@ -1,7 +1,7 @@
 use Prim.Native.Nat.{suc}
 use native.Mathlib.Omega.{arith}
 use mathlib.Core.Path.{sym as inv, ◌∙◌}
-use Rattle.search.specs.FurthestLaws.{best_none}
+use Rattle.search.proofs.FurthestLaws.{best_none}
 use Rattle.picking.proofs.Picks.{formula-long, found_after}
 use Rattle.weighing.proofs.Weighs.{foremost-more, foremost-found, foremost-all}
 use Rattle.weighing.proofs.furthest.Goals as goal

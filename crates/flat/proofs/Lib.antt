@@ -1,0 +1,4 @@
+pub mod Bound
+pub mod Closing
+pub mod Formulas
+pub mod Theorem

@@ -1,0 +1,5 @@
+pub mod ScheduleLaws
+pub mod Held
+pub mod Lemmas
+pub mod Theorem
+pub mod Finite
