@@ -4,11 +4,10 @@ use Rattle.std.specs.Prelude.{ℕ, zero, suc, ◌≡◌, refl, List}
 use Rattle.std.proofs.Common.{sym as inv, ap, ◌∙◌, append-nil}
 use Rattle.terms.specs.Node.{Expr}
 use Rattle.terms.specs.Row.{Row, row_end, row_var}
-use Rattle.terms.specs.Subst.{In, Subst, Proper, apply, after, itself, Unifies, MostGeneral}
+use Rattle.terms.specs.Subst.{Subst, Proper, apply, after, itself, Unifies, MostGeneral}
 use Rattle.terms.specs.SubstLaws.{apply-on, apply-after, apply-row}
 use Rattle.heap.specs.Heap.{rows, bound, Made, Solves, Solved}
 use Rattle.heap.specs.SolvedLaws.{solved-general, solved-free, row-free}
-use Rattle.matching.specs.Meeting.{Equal}
 use Rattle.matching.specs.Unifying.{More}
 
 module _ (heap cells cells' : List ℕ) (made : Made heap cells) {θ : Subst} (s : Solved heap cells θ) (p q : ℕ) (more : More heap cells p q cells') {θ' : Subst} (s' : Solved heap cells' θ') where

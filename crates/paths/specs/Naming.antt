@@ -1,7 +1,7 @@
 -- Formulas that are numbered, and the names that their variables had; the next goal and answer from what goal and answer stood for under any names.
 use Rattle.std.specs.Prelude.{ℕ, ◌+◌, ◌<◌, ◌≡◌, refl, get_or}
 use Rattle.std.proofs.Common.{arith, sym as inv, ap, ap₂, ◌∙◌, subst, inl, inr}
-use mathlib.Core.List.{List, [], ◌∷◌, ◌++◌, map, map-map, head-eq_of_cons-eq, tail-eq_of_cons-eq}
+use mathlib.Core.List.{[], ◌∷◌, ◌++◌, map, map-map, head-eq_of_cons-eq, tail-eq_of_cons-eq}
 use Rattle.terms.specs.Node.{Expr}
 use Rattle.terms.specs.Subst.{In, InAny, Subst, apply, itself, MostGeneral}
 use Rattle.terms.specs.SubstLaws.{in-apply, map_same}
@@ -23,6 +23,7 @@ any-rename-back ρ v (f ∷ g) (inl i) =
     let (u, j, k) = in-apply v (λ w. itself (ρ w)) f (subst (In v) (rename-apply ρ f) i) in
     elim k [ inl e ↦ (u, inl j, e) | inr z ↦ absurd z ]
 any-rename-back ρ v (f ∷ g) (inr i) = let (u, j, e) = any-rename-back ρ v g i in (u, inr j, e)
+any-rename-back ρ v [] x' = elim x' [ ]
 
 -- the names of the formulas x
 module _ (x : Goal) where
@@ -67,6 +68,7 @@ module _ (F : Expr) (G A : Goal) (f : Expr) (g a : Goal) (is : number_all [] (F 
   any-front : (v : ℕ) (l m : Goal) → InAny v l → InAny v (l ++ m)
   any-front v (e ∷ l) m (inl i) = inl i
   any-front v (e ∷ l) m (inr i) = inr (any-front v l m i)
+  any-front v [] m x' = elim x' [ ]
 
   pub near : Apart α past (f ∷ g) (c.head ∷ c.body)
   near = record {
