@@ -4,13 +4,11 @@ use native.Mathlib.Omega.{arith}
 use borrow.Author.Tests.{lt-ltb, le-ltb}
 use mathlib.Core.Path.{◌≡◌, refl, ap, ◌∙◌, subst}
 use mathlib.Core.List.{List, [], ◌∷◌}
-use mathlib.Core.Bool.{true, false}
 use lib.ListN.{length, take}
 use Rattle.terms.specs.Node.{Expr}
 use Rattle.search.specs.Next.{Book, Goal, clause_at}
-use Rattle.search.specs.Step.{Step, stuck, to, next}
-use Rattle.search.specs.Room.{fits}
-use Rattle.search.specs.Single.{not_taken, taken, if_fits}
+use Rattle.search.specs.Step.{stuck, next}
+use Rattle.search.specs.Single.{not_taken, if_fits}
 use Rattle.search.specs.Pick.{applied, apply_by}
 use Rattle.words.specs.Held.{GoalIn, BookOn}
 use Rattle.format.specs.Format.{encode_goal}
