@@ -1,17 +1,16 @@
 -- Along the entries of a list: their numbers in turn, and the entry of a name.
 use Prim.Native.Nat.{ℕ, suc, ◌+◌, ◌≤◌, ◌<◌}
 use mathlib.Core.Path.{◌≡◌, refl, sym as inv, ap, ap₂, ◌∙◌, subst}
-use mathlib.Core.Bool.{Bool, true, false, not, ◌&&◌}
+use mathlib.Core.Bool.{Bool, true, false, ◌&&◌}
 use mathlib.Core.List.{List, [], ◌∷◌}
 use native.Mathlib.Omega.{arith}
-use borrow.Author.Tests.{eq-eqb, ne_eqb, lt-ltb, le-ltb, not-true, not-false}
+use borrow.Author.Tests.{eq-eqb, ne_eqb, lt-ltb, le-ltb}
 use lib.ListN.{length, get_or}
-use lib.Dec.{eqb, ltb}
+use lib.Dec.{eqb}
 use Rattle.terms.specs.Cases.{cases}
 use Rattle.format.specs.Format.{Bytes}
 use Rattle.format.specs.Reading.{number_at}
 use Rattle.grammar.specs.Names.{Sort, Constant, Compound, Predicate, kind, is_sort, same_name}
-use Rattle.nametable.specs.Table.{word}
 use Rattle.namelist.specs.List.{Entry}
 use Rattle.namelist.specs.Bytes.{sort_of, name_at, past, entries_of, is_list}
 use Rattle.namelist.specs.ListLaws.{Stands, entered, stands-end, stands-more}
@@ -19,7 +18,7 @@ use Rattle.namelist.specs.Meaning.{entry-is, list-means, list-stands}
 use Rattle.namelist.proofs.Walking.{More, stands_one}
 use Rattle.questions.specs.Given.{names_of}
 use Rattle.known.specs.declared.Known.{Known}
-use Rattle.known.specs.InTurn.{own, more, fits, in_turn, own_of, more_of, in_turn_of, started, refused, Low}
+use Rattle.known.specs.InTurn.{fits, in_turn, own_of, more_of, in_turn_of, started, refused, Low}
 use Rattle.known.specs.TurnLaws.{own-more, not-list, gives-turn}
 use Rattle.known.specs.Known.{Turned, Knows, sought}
 
@@ -65,7 +64,7 @@ module _ (s : List ℕ) where
 
   pub record Turning (at : ℕ) (c : Known) : Type 0 where
     pub inner : Left s at
-    pub good : c.well-formed ≡ true
+    pub good : c.good ≡ true
     pub low : Low c
     pub rest : in_turn_of c inner.left ≡ in_turn 0 0 0 inner.whole
     pub counts : (k : Sort) → own_of c k + length (names_of k inner.left) ≡ length (names_of k inner.whole)
@@ -221,13 +220,13 @@ pub ruleset calls-said = (calling_hit, calling-end)
 -- The check
 
 module _ (s : List ℕ) (t : Bool) (said : t ≡ is_list s) where
-  pub known-none : not t ≡ true → (r : Known) → r ≡ refused → Knows s r
+  pub known-none : t ≡ false → (r : Known) → r ≡ refused → Knows s r
   known-none f r e =
-      rw e (record { good_is = inv (not-list s (inv said ∙ not-true t f)); counts = λ (z : false ≡ true). let w : ◌≡◌ {A = ℕ} 0 1 = cc in absurd (omega arith) })
+      rw e (record { good_is = inv (not-list s (inv said ∙ f)); counts = λ (z : false ≡ true). let w : ◌≡◌ {A = ℕ} 0 1 = cc in absurd (omega arith) })
 
-  module _ (bytes : Bytes s) (good : not t ≡ false) where
+  module _ (bytes : Bytes s) (good : t ≡ true) where
     abbrev is_one : is_list s ≡ true
-    is_one = inv said ∙ not-false t good
+    is_one = inv said ∙ good
 
     pub known-made : (l : List Entry) × Stands s 0 l
     known-made = (entries_of s, list-stands s (entries_of s) (list-means s bytes is_one))

@@ -1,5 +1,5 @@
 -- Whether the numbers of entries leave none out: each is how many entries of its sort stand before it (questions, Given: `gives`).
-use Rattle.std.specs.Prelude.{ℕ, suc, ◌+◌, ◌≤◌, Bool, true, false, List, [], ◌∷◌, eqb, ltb}
+use Rattle.std.specs.Prelude.{ℕ, ◌+◌, ◌≤◌, Bool, true, false, List, [], ◌∷◌, eqb, ltb}
 use Rattle.terms.specs.When.{◌⇒◌∣◌}
 use Rattle.grammar.specs.Names.{Sort, Constant, Compound, Predicate, is_sort}
 use Rattle.namelist.specs.List.{Entry}

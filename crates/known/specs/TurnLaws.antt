@@ -1,8 +1,8 @@
 -- The test entry by entry is the one that tells a list by its names (questions, Given: `gives`); a name's number in such a list is its place among the names.
-use Rattle.std.specs.Prelude.{ℕ, suc, ◌+◌, ◌/◌, ◌%◌, ◌≤◌, ◌<◌, ◌≡◌, refl, Bool, true, false, ◌&&◌, length, eqb, ltb, leb}
+use Rattle.std.specs.Prelude.{ℕ, suc, ◌+◌, ◌/◌, ◌%◌, ◌≤◌, ◌<◌, ◌≡◌, refl, true, false, length, eqb, leb}
 use Rattle.std.proofs.Math.Path.{sym as inv, ap}
 use Rattle.std.proofs.Common.{◌∙◌, subst, inl, inr, true≢false, arith, eqb-true, eq-eqb, ltb-true, lt-ltb, le-leb}
-use mathlib.Core.List.{List, [], ◌∷◌, ◌++◌, append_assoc, append-nil}
+use mathlib.Core.List.{List, [], ◌∷◌, ◌++◌, append_assoc}
 use Rattle.terms.specs.When.{◌⇒◌∣◌}
 use Rattle.terms.specs.Cases.{cases}
 use Rattle.format.specs.Format.{Bytes}
@@ -16,7 +16,7 @@ use Rattle.namelist.specs.Tests.{no_test, passed, behind}
 use Rattle.printing.specs.OrderLaws.{same-sort}
 use Rattle.namelist.specs.NamingLaws.{entry}
 use Rattle.namelist.specs.Table.{entries_on, table_entries, table-list}
-use Rattle.questions.specs.Given.{Gives, names_of, given_from, few, gives, gives-means}
+use Rattle.questions.specs.Given.{names_of, given_from, gives, gives-means}
 use Rattle.known.specs.InTurn.{own, more, fits, in_turn}
 use Rattle.known.specs.Known.{sought}
 
