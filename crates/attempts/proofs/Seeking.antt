@@ -6,7 +6,7 @@ use mathlib.Core.List.{List, ◌∷◌}
 use lib.ListN.{length, get_or, take, drop}
 use lib.Seq.{get_or-take, length-take-le}
 use Rattle.terms.specs.Node.{Expr}
-use Rattle.search.specs.Next.{Clause, Book, Goal, Meets, clause_at}
+use Rattle.search.specs.Next.{Book, Goal, Meets, clause_at}
 use Rattle.words.specs.Word.{kind_of, arity_of}
 use Rattle.words.specs.Columns.{every}
 use Rattle.words.specs.Held.{Placed, BookOn, bodies}

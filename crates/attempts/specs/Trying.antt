@@ -3,7 +3,7 @@ use Rattle.std.specs.Prelude.{ℕ, suc, ◌+◌, ◌<◌, ◌≤◌, ◌≡◌, 
 use Rattle.terms.specs.Node.{Expr}
 use Rattle.terms.specs.Subst.{Subst}
 use Rattle.search.specs.Next.{Clause, Book, Meets, clause_at}
-use Rattle.words.specs.Word.{Fits, nodes}
+use Rattle.words.specs.Word.{Fits}
 use Rattle.picking.specs.Laying.{moved}
 use Rattle.picking.specs.Picking.{Picked}
 use Rattle.heap.specs.Heap.{Whole, bound, Made, Solves, Solved}
@@ -17,7 +17,6 @@ use Rattle.attempts.specs.Facts.{Given}
 use Rattle.attempts.specs.declared.Attempt.{Attempt}
 use Rattle.attempts.specs.declared.Attempt.TheVariants.{Fits as Fits-now, Clash, Tired}
 use Rattle.attempts.specs.declared.Found.{Found}
-use Rattle.attempts.specs.declared.Found.TheVariants as Found
 
 -- the heap in use, and behind it a clause, whose variables are moved past those that are there
 abbrev pub laid : List ℕ → ℕ → List ℕ → List ℕ
