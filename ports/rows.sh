@@ -44,4 +44,4 @@ promise() {
 }
 
 # same_object: the object for x86-64 that was made of the module's text is the archive's own, byte by byte, so that nothing was lost on the way.
-same_object() { "$tools/bin/llvm-ar" p target/staticlib/libengine.a engine.o | cmp - target/ports/x86_64/engine.o; }
+same_object() { "$tools/bin/llvm-ar" p target/staticlib/libengine.a | cmp - target/ports/x86_64/engine.o; }
