@@ -1,13 +1,11 @@
 -- The next goal and answer, written one behind the other.
-use Prim.Native.Nat.{ℕ, zero, suc, ◌+◌, ◌-◌, ◌<◌, ◌≤◌}
+use Prim.Native.Nat.{ℕ, ◌+◌, ◌-◌, ◌<◌, ◌≤◌}
 use native.Mathlib.Omega.{arith}
-use mathlib.Core.Path.{◌≡◌, refl, sym as inv, ap, ap₂, ◌∙◌, subst}
-use mathlib.Core.Bool.{true}
-use mathlib.Core.List.{List, [], ◌∷◌, ◌++◌}
+use mathlib.Core.Path.{◌≡◌, refl, sym as inv, ap, ◌∙◌, subst}
+use mathlib.Core.List.{List, [], ◌++◌}
 use lib.ListN.{length, take, length-append}
 use Rattle.terms.specs.Node.{Expr}
 use Rattle.terms.specs.Subst.{In, Subst, apply}
-use Rattle.terms.specs.Number.{number, within, seen_after}
 use Rattle.terms.proofs.NumberLaws.{number_append}
 use Rattle.words.specs.Word.{Fits, nodes}
 use Rattle.words.specs.WordLaws.{in-fits}

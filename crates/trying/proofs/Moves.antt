@@ -1,5 +1,5 @@
 -- The row on the heap, and the move by the first clause that fits.
-use Prim.Native.Nat.{ℕ, ◌+◌, ◌-◌, ◌<◌, ◌≤◌}
+use Prim.Native.Nat.{ℕ, ◌+◌, ◌<◌, ◌≤◌}
 use native.Mathlib.Omega.{arith}
 use native.Mathlib.Decide.{ℕ_discrete}
 use mathlib.Core.Path.{◌≡◌, refl, sym as inv, ap, ap₂, ◌∙◌, subst}
@@ -19,7 +19,6 @@ use Rattle.matching.specs.Binding.{Trailed}
 use Rattle.trials.specs.Trying.{Undoable, Fronted, clause_words, HeldTrial, Sought}
 use Rattle.trying.specs.Stepping.{Shaped, IsSetUp, Quickly, Quickened}
 use Rattle.trials.specs.declared.Found.{Found}
-use Rattle.trials.specs.declared.Found.TheVariants as Found
 use Rattle.trying.specs.declared.stepping.Shape.{Shape}
 use Rattle.trying.specs.declared.stepping.Quick.{Quick}
 use Rattle.trying.specs.declared.stepping.Quick.TheVariants.{Unsure, Sure}

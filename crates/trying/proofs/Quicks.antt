@@ -19,7 +19,6 @@ use Rattle.trying.specs.Carrying.{Placed, Carried}
 use Rattle.trying.specs.Stepping.{parts, concluded, IsSetUp, Quickly}
 use Rattle.trying.specs.declared.carrying.Parts.{Parts}
 use Rattle.trying.specs.declared.carrying.Next.{Next}
-use Rattle.trying.specs.declared.carrying.Next.TheVariants as Next
 use Rattle.trying.specs.declared.stepping.Shape.{Shape}
 use Rattle.trials.proofs.Heaps.{flat_rows}
 use Rattle.trying.proofs.Steps.{placed, ends-many, ends-full, ends-over, ends-done}

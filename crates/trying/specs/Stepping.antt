@@ -8,7 +8,6 @@ use Rattle.trials.specs.Trying.{clause_words, HeldTrial}
 use Rattle.resolve.specs.declared.Move.TheVariants.{Full, Over, To}
 use Rattle.trying.specs.declared.carrying.Parts.{Parts}
 use Rattle.trying.specs.declared.carrying.Next.{Next}
-use Rattle.trying.specs.declared.carrying.Next.TheVariants as Next
 use Rattle.trying.specs.declared.stepping.Shape.{Shape}
 use Rattle.trying.specs.declared.stepping.Quick.{Quick}
 use Rattle.trying.specs.declared.stepping.Quick.TheVariants.{Unsure, Sure}
