@@ -10,7 +10,6 @@ use lib.Seq.{get_or-set_same, get_or-set_other, drop-cons}
 use lib.Dec.{eqb}
 use Rattle.terms.specs.When.{◌⇒◌∣◌}
 use Rattle.terms.specs.Cases.{cases}
-use Rattle.grammar.specs.Token.{bytes}
 use Rattle.grammar.specs.Query.{Given}
 use Rattle.laying.specs.declared.Kind.{Kind}
 use Rattle.laying.specs.declared.Kind.TheVariants.{Variable, Constant, Compound, Predicate}

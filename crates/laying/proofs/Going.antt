@@ -1,9 +1,9 @@
 -- The pass over a text.
-use Prim.Native.Nat.{ℕ, zero, suc, ◌+◌, ◌-◌, ◌*◌, ◌≤◌, ◌<◌}
-use mathlib.Core.Path.{◌≡◌, refl, sym as inv, ap, ap₂, subst, ◌∙◌}
+use Prim.Native.Nat.{ℕ, ◌-◌, ◌≤◌, ◌<◌}
+use mathlib.Core.Path.{◌≡◌, refl, sym as inv, ap, subst, ◌∙◌}
 use mathlib.Core.List.{List, [], ◌∷◌, ◌++◌, append-nil}
 use native.Mathlib.Omega.{arith}
-use lib.ListN.{length, take, drop, length-drop, length-append}
+use lib.ListN.{length, drop, length-drop, length-append}
 use Rattle.grammar.specs.Token.{Piece, token, blank, comment, bytes, spelt, Spaced, tokens}
 use Rattle.grammar.specs.TokenLaws.{front-is, fits-stays, spelt-long}
 use Rattle.grammar.specs.Front.{front, front_of}
@@ -23,7 +23,7 @@ use Rattle.laying.specs.declared.Task.{Task}
 use Rattle.laying.specs.Page.{Page, page, blank_page, over}
 use Rattle.laying.specs.PageLaws.{spots_all, formulas_bytes}
 use Rattle.laying.specs.PieceLaws.{word_count, text-laid, asked-count}
-use Rattle.laying.specs.Words.{base_of, own_of, list_of, words_of, Words, Kept, Knowing}
+use Rattle.laying.specs.Words.{base_of, own_of, list_of, words_of, Words, Knowing}
 use Rattle.laying.specs.Held.{blank_draft, Held}
 use Rattle.laying.specs.Adding.{after, PieceHere, SomePiece, PieceLaid, Lays, Laid}
 

@@ -1,13 +1,11 @@
 -- A word laid on a page that is held.
-use Prim.Native.Nat.{ℕ, zero, suc, ◌+◌, ◌-◌, ◌*◌, ◌≤◌, ◌<◌}
-use mathlib.Core.Path.{◌≡◌, refl, sym as inv, ap, ap₂, subst, ◌∙◌}
-use mathlib.Core.Bool.{Bool, true, false}
+use Prim.Native.Nat.{ℕ, zero, suc, ◌+◌, ◌-◌, ◌≤◌, ◌<◌}
+use mathlib.Core.Path.{◌≡◌, refl, sym as inv, ap, subst, ◌∙◌}
 use mathlib.Core.List.{List, [], ◌∷◌, ◌++◌}
 use native.Mathlib.Omega.{arith}
 use borrow.Author.Tests.{lt-ltb, le-ltb}
-use lib.ListN.{length, get_or, set, take, drop, length-set, length-append}
-use lib.Seq.{take-set-lt, get_or-take, length-take-le, get_or-set_same, get_or-set_other}
-use Rattle.terms.specs.When.{◌⇒◌∣◌}
+use lib.ListN.{length, get_or, set, take, length-set}
+use lib.Seq.{take-set-lt, get_or-take}
 use Rattle.grammar.specs.Names.{Spot}
 use Rattle.grammar.specs.Query.{Given}
 use Rattle.drafts.specs.Writing.{Wrote}
@@ -16,8 +14,8 @@ use Rattle.laying.specs.declared.Kind.{Kind}
 use Rattle.laying.specs.declared.Kind.TheVariants.{Variable, Constant, Compound, Predicate}
 use Rattle.laying.specs.declared.Draft.{Draft}
 use Rattle.laying.specs.declared.Word.{Word}
-use Rattle.laying.specs.Page.{Page, page, raised, bumped}
-use Rattle.laying.specs.Words.{Modest, base_of, own_of, given_of, list_of, number_of, word_of, Words, Kept, Notes, Noted}
+use Rattle.laying.specs.Page.{Page, raised, bumped}
+use Rattle.laying.specs.Words.{base_of, own_of, word_of, Words, Kept, Notes, Noted}
 use Rattle.laying.specs.Held.{node_bytes, stack_of, Below, longer_draft, Held, Ready, Somewhere, with_word, LaysWord}
 
 -- Arities

@@ -1,34 +1,24 @@
 -- The pieces of a text laid one behind the other.
-use Prim.Native.Nat.{ℕ, zero, suc, ◌+◌, ◌-◌, ◌*◌, ◌≤◌, ◌<◌}
-use mathlib.Core.Path.{◌≡◌, refl, sym as inv, ap, ap₂, subst, ◌∙◌}
-use mathlib.Core.Bool.{Bool, true, false}
-use mathlib.Core.List.{List, [], ◌∷◌, ◌++◌, append-nil}
+use Prim.Native.Nat.{ℕ, suc, ◌+◌, ◌-◌, ◌≤◌, ◌<◌}
+use mathlib.Core.Path.{◌≡◌, refl, sym as inv, ap, subst, ◌∙◌}
+use mathlib.Core.List.{List, ◌∷◌}
 use native.Mathlib.Omega.{arith}
-use lib.ListN.{length, get_or, take, drop, length-drop, length-append, drop_of_length-le}
-use Rattle.grammar.specs.Token.{Token, name, variable, opening, closing, comma, arrow, stop, Piece, token, blank, comment, bytes, spelt, Spaced, tokens}
-use Rattle.grammar.specs.TokenLaws.{front-is, fits-stays, spelt-long}
-use Rattle.grammar.specs.Front.{front, front_of}
-use Rattle.grammar.specs.Syntax.{Formula}
+use lib.ListN.{length, get_or, drop}
+use Rattle.grammar.specs.Token.{name, variable, opening, closing, comma, arrow, stop, Piece, token, blank, comment, bytes, tokens}
+use Rattle.grammar.specs.Front.{front}
 use Rattle.grammar.specs.Query.{Given}
-use Rattle.asking.specs.FaultLaws.{Accepted}
-use Rattle.pieces.specs.Found.{part, front_at, Inside, Shows}
+use Rattle.pieces.specs.Found.{part, front_at, Inside}
 use Rattle.pieces.specs.declared.Found.{Found}
 use Rattle.pieces.specs.declared.Found.TheVariants as F
 use Rattle.pieces.specs.Found.{end_of}
-use Rattle.reader.proofs.Walks.{piece-end}
 use Rattle.nametable.specs.Table.{word}
 use Rattle.questions.specs.Given.{given_from}
-use Rattle.known.specs.declared.Known.{Known}
-use Rattle.laying.specs.declared.Kind.{Kind}
-use Rattle.laying.specs.declared.Kind.TheVariants.{Variable, Constant, Compound, Predicate}
 use Rattle.laying.specs.declared.Draft.{Draft}
 use Rattle.laying.specs.declared.Task.{Task}
-use Rattle.laying.specs.Page.{Page, page, blank_page, bracketed, over}
-use Rattle.laying.specs.PageLaws.{spots_all, formulas_bytes}
-use Rattle.laying.specs.PieceLaws.{word_count, text-laid, asked-count}
-use Rattle.laying.specs.Words.{base_of, own_of, list_of, words_of, Words, Kept, Knowing}
-use Rattle.laying.specs.Held.{blank_draft, shut_draft, Held}
-use Rattle.laying.specs.Adding.{WordHere, NameHere, SomeWord, NameLaid, SomeVariable, VariableLaid, role_of, after, PieceHere, SomePiece, PieceLaid, Lays, Laid}
+use Rattle.laying.specs.Page.{Page}
+use Rattle.laying.specs.PieceLaws.{word_count}
+use Rattle.laying.specs.Held.{shut_draft, Held}
+use Rattle.laying.specs.Adding.{WordHere, NameHere, SomeWord, NameLaid, SomeVariable, VariableLaid, role_of, after, PieceHere, SomePiece, PieceLaid}
 use Rattle.laying.proofs.Bracketing.{held-shut}
 
 -- What a piece is, by its role

@@ -1,17 +1,15 @@
 -- A word sought among the query's own, and in the list.
-use Prim.Native.Nat.{ℕ, zero, suc, ◌+◌, ◌-◌, ◌≤◌, ◌<◌}
+use Prim.Native.Nat.{ℕ, suc, ◌+◌, ◌≤◌, ◌<◌}
 use mathlib.Core.Path.{◌≡◌, refl, sym as inv, ap, ap₂, subst, ◌∙◌}
 use mathlib.Core.Bool.{Bool, true, false, true≢false}
 use mathlib.Core.List.{List, [], ◌∷◌, ◌++◌}
 use native.Mathlib.Omega.{arith}
 use lib.ListN.{length, get_or}
-use lib.Dec.{eqb}
-use Rattle.terms.specs.When.{◌⇒◌∣◌}
 use Rattle.terms.specs.Cases.{cases}
 use Rattle.format.specs.Format.{Bytes}
 use Rattle.grammar.specs.Names as Names
 use Rattle.grammar.specs.Names.{Sort, Spot, same_name, place, within, kind, lone, variable_number, variables_after}
-use Rattle.grammar.specs.NameLaws.{place-low, place-within}
+use Rattle.grammar.specs.NameLaws.{place-within}
 use Rattle.grammar.specs.Query.{Given}
 use Rattle.nametable.specs.Table.{word}
 use Rattle.stages.proofs.Kept.{place-first, place_none, found-more, word-long, other-long, same-there, lone-other, lone-at}
@@ -27,7 +25,7 @@ use Rattle.laying.specs.declared.Kind.{Kind}
 use Rattle.laying.specs.declared.Kind.TheVariants.{Variable, Constant, Compound, Predicate}
 use Rattle.laying.specs.declared.Draft.{Draft}
 use Rattle.laying.specs.declared.Word.{Word}
-use Rattle.laying.specs.Words.{base_of, code_of, own_of, given_of, list_of, words_of, number_of, word_of, Words, Kept, Numbering, VariableNumber, Symbol, Knowing, Naming, NamedNumber}
+use Rattle.laying.specs.Words.{base_of, code_of, own_of, given_of, list_of, words_of, number_of, word_of, Words, Kept, Numbering, VariableNumber, Symbol, Naming, NamedNumber}
 use Rattle.laying.proofs.Sorts.{base-low}
 
 -- Lone

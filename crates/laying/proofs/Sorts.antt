@@ -1,26 +1,21 @@
 -- The query's own words, one by one.
-use Prim.Native.Nat.{ℕ, zero, suc, ◌+◌, ◌-◌, ◌≤◌, ◌<◌}
-use mathlib.Core.Path.{◌≡◌, refl, sym as inv, ap, ap₂, subst, ◌∙◌}
+use Prim.Native.Nat.{ℕ, ◌+◌, ◌≤◌, ◌<◌}
+use mathlib.Core.Path.{◌≡◌, refl, sym as inv, ◌∙◌}
 use mathlib.Core.Bool.{Bool, true, false, true≢false}
-use mathlib.Core.List.{List, [], ◌∷◌, ◌++◌, append_assoc}
+use mathlib.Core.List.{List, [], ◌∷◌, ◌++◌}
 use native.Mathlib.Omega.{arith}
-use native.Mathlib.Decide.{dec_lt}
-use lib.ListN.{length, get_or, set, length-append, length-set}
-use lib.Seq.{get_or-set_same, get_or-set_other}
+use lib.ListN.{length}
 use Rattle.terms.specs.When.{◌⇒◌∣◌}
 use Rattle.terms.specs.Cases.{cases}
 use Rattle.grammar.specs.Names as Names
 use Rattle.grammar.specs.Names.{Sort, Spot, variable_spot, symbol_spot, same_name, place, within, grow, names_after, lone, variable_number, with_variable, variables_after}
 use Rattle.grammar.specs.NameLaws.{place-within, place-outside, variables-append}
 use Rattle.grammar.specs.Query.{Given}
-use Rattle.nametable.specs.Table.{word}
 use Rattle.drafts.proofs.Nodes.{names-append}
-use Rattle.known.specs.declared.Known.{Known}
 use Rattle.laying.specs.declared.Kind.{Kind}
 use Rattle.laying.specs.declared.Kind.TheVariants.{Variable, Constant, Compound, Predicate}
 use Rattle.laying.specs.declared.Draft.{Draft}
-use Rattle.laying.specs.declared.Word.{Word}
-use Rattle.laying.specs.Words.{base_of, own_of, given_of, draft, with_one, list_of, words_of, spot_of, number_of, word_of, Words, Kept, Notes, Noted}
+use Rattle.laying.specs.Words.{base_of, own_of, draft, with_one, words_of, spot_of, number_of}
 
 -- A name that is there, and a new one
 

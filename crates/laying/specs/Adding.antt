@@ -1,5 +1,5 @@
 -- What is asked and answered as a piece of the text is laid.
-use Rattle.std.specs.Prelude.{ℕ, ◌+◌, ◌-◌, ◌≤◌, ◌<◌, ◌≡◌, true, List, [], ◌∷◌, ◌++◌, length, take, drop}
+use Rattle.std.specs.Prelude.{ℕ, ◌+◌, ◌-◌, ◌≤◌, ◌<◌, ◌≡◌, List, [], ◌∷◌, length, take, drop}
 use Rattle.grammar.specs.Token.{Piece, token, blank, comment, bytes, Spaced, tokens}
 use Rattle.grammar.specs.Front.{front}
 use Rattle.grammar.specs.Syntax.{Formula}
@@ -14,12 +14,10 @@ use Rattle.questions.specs.Given.{given_from}
 use Rattle.known.specs.declared.Known.{Known}
 use Rattle.laying.specs.declared.Draft.{Draft}
 use Rattle.laying.specs.declared.Task.{Task}
-use Rattle.laying.specs.declared.Kind.{Kind}
-use Rattle.laying.specs.declared.Kind.TheVariants.{Variable}
 use Rattle.laying.specs.Page.{Page, named, argued, step, bracketed}
 use Rattle.laying.specs.PageLaws.{spots_all, formulas_bytes}
 use Rattle.laying.specs.PieceLaws.{word_count}
-use Rattle.laying.specs.Words.{given_of, list_of, Kept, Knowing}
+use Rattle.laying.specs.Words.{Kept, Knowing}
 use Rattle.laying.specs.Held.{Held}
 
 -- A word from a place to another

@@ -1,12 +1,10 @@
 -- The bytes laid are those of the query's nodes, and the names are those of the list with the new ones behind them (grammar, Query).
-use Rattle.std.specs.Prelude.{ℕ, suc, ◌+◌, ◌/◌, ◌%◌, ◌≡◌, refl, List, [], ◌∷◌, ◌++◌, length}
+use Rattle.std.specs.Prelude.{ℕ, suc, ◌/◌, ◌%◌, ◌≡◌, refl, List, [], ◌∷◌, ◌++◌, length}
 use Rattle.std.proofs.Common.{sym as inv, ap, ap₂, ◌∙◌, append_assoc, append-nil}
 use Rattle.terms.specs.Node.{Expr, sym}
-use Rattle.terms.specs.When.{◌⇒◌∣◌}
-use Rattle.words.specs.Flat.{flat}
 use Rattle.format.specs.Format.{encode_record, encode, node_record, node_records, encode_goal}
 use Rattle.grammar.specs.Syntax.{Terms, none, variable_then, name_then, Formula}
-use Rattle.grammar.specs.Names.{Sort, Constant, Compound, Predicate, Spot, variable_spot, symbol_spot, count, called, spots_then, formula_spots, formulas_spots, place, grow, is_sort, names_after, variable_number, with_variable, variables_after, symbol_for, numbered, numbered_all}
+use Rattle.grammar.specs.Names.{Sort, Constant, Compound, Predicate, Spot, variable_spot, symbol_spot, count, called, spots_then, formula_spots, formulas_spots, place, grow, names_after, variable_number, with_variable, variables_after, symbol_for, numbered, numbered_all}
 use Rattle.grammar.specs.NameLaws.{variables-append, flat-numbered}
 use Rattle.grammar.specs.GrowLaws.{place_after, within_grown, is-sort_self}
 use Rattle.grammar.specs.Query.{Given, names_with, goal}

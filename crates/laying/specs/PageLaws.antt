@@ -1,14 +1,13 @@
 -- What the tokens of terms and formulas add.
-use Rattle.std.specs.Prelude.{ℕ, suc, ◌+◌, ◌/◌, ◌%◌, ◌≤◌, ◌≡◌, refl, Bool, true, false, List, [], ◌∷◌, ◌++◌, length, get_or, set}
+use Rattle.std.specs.Prelude.{ℕ, suc, ◌+◌, ◌≤◌, ◌≡◌, refl, Bool, true, false, List, [], ◌∷◌, ◌++◌, length, set}
 use Rattle.std.proofs.Common.{sym as inv, ap, ap₂, ◌∙◌, append_assoc, append-nil, arith, lt-ltb, length-append}
 use Rattle.std.proofs.Math.Seq.{get_or-append_seam, set-append_seam}
-use Rattle.terms.specs.When.{◌⇒◌∣◌}
-use Rattle.grammar.specs.Token.{Token, name, variable, opening, closing, comma, arrow, stop}
-use Rattle.grammar.specs.Syntax.{Terms, none, variable_then, name_then, Formula, first, later, arguments_then, formula_then}
-use Rattle.grammar.specs.Names.{Sort, Constant, Compound, Predicate, Spot, variable_spot, symbol_spot, count, called, variable_number, variables_after}
-use Rattle.grammar.specs.Reading.{Small, SmallFormula, SmallFormulas}
+use Rattle.grammar.specs.Token.{Token, name}
+use Rattle.grammar.specs.Syntax.{Terms, none, variable_then, name_then, Formula, first, later, arguments_then}
+use Rattle.grammar.specs.Names.{Constant, Compound, Predicate, Spot, variable_spot, symbol_spot, count, called, variable_number, variables_after}
+use Rattle.grammar.specs.Reading.{Small, SmallFormulas}
 use Rattle.grammar.specs.Query.{Given, more_then, ends_with, End, open_end, full_stop, asked}
-use Rattle.laying.specs.Page.{Page, page, blank_page, number, header, arity, raised, bumped, named, variable_bytes, argued, step, opens, run}
+use Rattle.laying.specs.Page.{Page, page, blank_page, number, header, arity, raised, bumped, named, variable_bytes, opens, run}
 
 -- The nodes of terms and formulas behind others
 

@@ -1,10 +1,10 @@
 -- A query's text piece by piece.
-use Rattle.std.specs.Prelude.{ℕ, suc, ◌+◌, ◌≡◌, refl, Bool, true, false, List, [], ◌∷◌, ◌++◌, length}
+use Rattle.std.specs.Prelude.{ℕ, suc, ◌≡◌, refl, Bool, false, List, [], ◌∷◌, length}
 use Rattle.std.proofs.Common.{sym as inv, ap, ◌∙◌, true≢false, arith, eqb-true, ne_eqb}
 use Rattle.grammar.specs.Byte.{is_line_end, is_bracket, Next, NextNot}
 use Rattle.grammar.specs.Token.{Token, name, variable, opening, closing, comma, arrow, stop, Piece, token, blank, comment, bytes, Spaced, tokens}
 use Rattle.grammar.specs.Syntax.{Terms, none, variable_then, name_then, Formula, Turn, first, later, arguments_then}
-use Rattle.grammar.specs.Names.{Spot, formulas_spots, formula_spots, spots_then}
+use Rattle.grammar.specs.Names.{Spot, formulas_spots, spots_then}
 use Rattle.grammar.specs.Query.{Given, more_then, ends_with, End, open_end, full_stop, asked}
 use Rattle.asking.specs.FaultLaws.{Accepted}
 use Rattle.laying.specs.Page.{Page, page, blank_page, step, opens, run, bracketed, over}

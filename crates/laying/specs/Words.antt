@@ -1,6 +1,5 @@
 -- The query's own words as the code holds them, and the numbers that they have.
-use Rattle.std.specs.Prelude.{ℕ, ◌+◌, ◌≤◌, ◌<◌, ◌≡◌, Bool, true, false, List, [], ◌∷◌, ◌++◌, length, get_or}
-use Rattle.terms.specs.When.{◌⇒◌∣◌}
+use Rattle.std.specs.Prelude.{ℕ, ◌+◌, ◌≤◌, ◌<◌, ◌≡◌, true, List, [], ◌∷◌, ◌++◌, length, get_or}
 use Rattle.grammar.specs.Names as Names
 use Rattle.grammar.specs.Names.{Sort, Spot, variable_spot, symbol_spot, place, names_after, variable_number, variables_after}
 use Rattle.grammar.specs.Query.{Given}
