@@ -1,8 +1,7 @@
 -- One step, from the clause that is found to what is held after it.
 use Prim.Native.Nat.{ℕ, ◌+◌, ◌-◌, ◌<◌, ◌≤◌}
 use native.Mathlib.Omega.{arith}
-use mathlib.Core.Path.{◌≡◌, refl, sym as inv, ap, ◌∙◌, subst}
-use mathlib.Core.Bool.{Bool, not, true, false}
+use mathlib.Core.Path.{◌≡◌, sym as inv, ap, ◌∙◌, subst}
 use mathlib.Core.Option.{some}
 use mathlib.Core.List.{List, [], ◌∷◌, ◌++◌, append-nil}
 use lib.ListN.{length, take, drop, length-append, length-drop}
@@ -10,9 +9,9 @@ use lib.Seq.{length-take-le, take-take, take_at, drop_at}
 use borrow.Rule.Slice.PartMut.{put_mid, same_len_mid}
 use Rattle.terms.specs.Node.{Expr}
 use Rattle.terms.specs.Row.{Row, Every, Formulas}
-use Rattle.search.specs.Next.{Clause, Book, Goal, First, Resolved, clause_at}
+use Rattle.search.specs.Next.{Book, Goal, First, Resolved, clause_at}
 use Rattle.search.proofs.NextLaws.{next_iff}
-use Rattle.search.specs.Step.{to, next, goal_in, next_goal}
+use Rattle.search.specs.Step.{goal_in, next_goal}
 use Rattle.search.specs.Answer.{small, next_answer}
 use Rattle.search.proofs.AnswerLaws.{last-behind}
 use Rattle.words.specs.Held.{Placed, BookOn}
@@ -133,10 +132,3 @@ module _ (stack part : List ℕ) (long : length stack ≡ 1411) (same : length p
 
     pub stack_long : length (put_mid 387 1024 (part ++ drop 387 stack) figures) ≡ length stack
     stack_long = same_len_mid 387 1024 (part ++ drop 387 stack) figures as_long ∙ omega (arith, length-append part (drop 387 stack), part-long, behind-long, long)
-
-pub was_true : {b : Bool} → not b ≡ false → b ≡ true
-was_true {b} e = go b e
-  where
-    go : (b : Bool) → not b ≡ false → b ≡ true
-    go true e = refl
-    go false e = inv e
