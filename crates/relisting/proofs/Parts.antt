@@ -1,13 +1,13 @@
 -- The list with the query's own names, part by part.
-use Prim.Native.Nat.{ℕ, suc, ◌+◌, ◌-◌, ◌*◌, ◌≤◌, ◌<◌}
-use mathlib.Core.Path.{◌≡◌, refl, sym as inv, ap, ap₂, ◌∙◌, subst}
+use Prim.Native.Nat.{ℕ, suc, ◌+◌, ◌-◌, ◌*◌, ◌≤◌}
+use mathlib.Core.Path.{◌≡◌, refl, sym as inv, ap, ◌∙◌, subst}
 use mathlib.Core.List.{List, [], ◌∷◌, ◌++◌, append_assoc}
 use native.Mathlib.Omega.{arith}
-use lib.ListN.{length, take, drop, length-drop, length-append}
+use lib.ListN.{length, take, drop, length-append}
 use lib.Seq.{take_all, drop-drop}
 use borrow.Rule.Slice.PartMut.{put_mid}
 use Rattle.format.specs.Format.{Bytes}
-use Rattle.grammar.specs.Names.{Sort, Constant, Compound, Predicate, kind, entries, list_of}
+use Rattle.grammar.specs.Names.{Sort, Constant, Compound, Predicate, entries, list_of}
 use Rattle.grammar.specs.Query.{Given}
 use Rattle.nametable.specs.Table.{word}
 use Rattle.namelist.specs.List.{Entry, IsList}
@@ -21,9 +21,8 @@ use Rattle.listing.specs.Lists.{noted}
 use Rattle.known.specs.declared.Known.{Known}
 use Rattle.laying.specs.declared.Draft.{Draft}
 use Rattle.laying.specs.declared.Kind.TheVariants as Kind
-use Rattle.laying.specs.Words.{Knowing}
 use Rattle.relisting.specs.declared.Part.{Part}
-use Rattle.relisting.specs.Relisted.{Skipped, Owns, Sorts, part_bytes, constants_part, compounds_part, predicates_part, with_own, Sizes, Owned, Relists, Listable}
+use Rattle.relisting.specs.Relisted.{Skipped, Owns, Sorts, part_bytes, constants_part, compounds_part, predicates_part, with_own, Relists}
 use Rattle.relisting.proofs.Whole.{two-start, two-length, two-room, two-written, two-counted, sort-bytes, other-second, other-third, front-part, back-part}
 
 -- Sizes

@@ -11,7 +11,6 @@ use Rattle.stages.proofs.Kept.{word-long}
 use Rattle.storage.specs.Storage.{Written}
 use Rattle.storage.proofs.Filling.{Filling, filling-start, filling-left, filling-length, filling-done, filling-part}
 use Rattle.listing.specs.Lists.{noted}
-use Rattle.laying.specs.Words.{Words}
 use Rattle.relisting.specs.Relisted.{Owns, Puts}
 
 -- the names from the i-th on

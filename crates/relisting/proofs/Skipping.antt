@@ -1,13 +1,13 @@
 -- The entries of a kind.
 use Prim.Native.Nat.{ℕ, suc, ◌+◌, ◌≤◌, ◌<◌}
-use mathlib.Core.Path.{◌≡◌, refl, sym as inv, ap, ◌∙◌, subst}
+use mathlib.Core.Path.{◌≡◌, refl, sym as inv, ◌∙◌}
 use mathlib.Core.List.{List, [], ◌∷◌, ◌++◌}
 use native.Mathlib.Omega.{arith}
 use lib.ListN.{length, get_or, length-append}
 use Rattle.grammar.specs.Names.{Sort, Constant, Compound, Predicate, kind, entries}
 use Rattle.namelist.specs.List.{Entry}
 use Rattle.namelist.specs.Bytes.{past}
-use Rattle.namelist.specs.ListLaws.{Stands, entered, stands-end, stands-more}
+use Rattle.namelist.specs.ListLaws.{Stands, entered, stands-more}
 use Rattle.namelist.specs.NamingLaws.{entry}
 use Rattle.namelist.specs.Table.{entries_on}
 use Rattle.relisting.specs.Relisted.{Other, Skipped}

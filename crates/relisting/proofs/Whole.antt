@@ -1,29 +1,20 @@
 -- The parts of a list one behind the other.
-use Prim.Native.Nat.{ℕ, zero, suc, ◌+◌, ◌-◌, ◌/◌, ◌%◌, ◌≤◌, ◌<◌}
-use mathlib.Core.Path.{◌≡◌, refl, sym as inv, ap, ap₂, ◌∙◌, subst}
+use Prim.Native.Nat.{ℕ, suc, ◌+◌, ◌-◌, ◌/◌, ◌%◌, ◌≤◌}
+use mathlib.Core.Path.{◌≡◌, refl, sym as inv, ap, ap₂, ◌∙◌}
 use mathlib.Core.List.{List, [], ◌∷◌, ◌++◌, append-nil, append_assoc}
 use native.Mathlib.Omega.{arith}
 use lib.ListN.{length, take, drop, length-drop, length-append}
 use lib.Seq.{length-take-le, take-append_seam, drop-append_seam}
 use borrow.Rule.Slice.PartMut.{put_mid}
-use Rattle.format.specs.Format.{Bytes}
-use Rattle.grammar.specs.Names.{Sort, Constant, Compound, Predicate, kind, entries, list_of}
-use Rattle.grammar.specs.Query.{Given}
+use Rattle.grammar.specs.Names.{Sort, Constant, Compound, Predicate, kind, entries}
 use Rattle.nametable.specs.Table.{word}
 use Rattle.stages.proofs.Kept.{word-long}
-use Rattle.namelist.specs.List.{Entry, IsList}
-use Rattle.namelist.specs.ListLaws.{Stands}
-use Rattle.namelist.specs.Meaning.{list-stands}
-use Rattle.namelist.specs.Table.{entries_on, table_entries, table-list}
-use Rattle.questions.specs.Given.{Gives, given_from, gives-means}
+use Rattle.namelist.specs.Table.{entries_on}
 use Rattle.storage.specs.Storage.{Written}
-use Rattle.storage.proofs.Filling.{Filling, filling-left, filling-length, filling-done, filling-part, written_as}
+use Rattle.storage.proofs.Filling.{Filling, filling-left, filling-length, filling-done, filling-part}
 use Rattle.listing.specs.Lists.{noted}
-use Rattle.known.specs.declared.Known.{Known}
-use Rattle.laying.specs.declared.Draft.{Draft}
-use Rattle.laying.specs.declared.Kind.TheVariants as Kind
 use Rattle.relisting.specs.declared.Part.{Part}
-use Rattle.relisting.specs.Relisted.{Other, Skipped, Owns, Puts, Sorts, part_bytes, constants_part, compounds_part, predicates_part, with_own, Sizes, Owned, Relists, Listable}
+use Rattle.relisting.specs.Relisted.{Other, Owns, Puts, Sorts, part_bytes}
 
 -- Two parts
 
