@@ -1,5 +1,5 @@
 -- A ride from state to state.
-use Prim.Native.Nat.{ℕ, ◌+◌, ◌-◌, ◌≤◌, ◌<◌}
+use Prim.Native.Nat.{ℕ, ◌+◌, ◌≤◌, ◌<◌}
 use native.Mathlib.Omega.{arith}
 use mathlib.Core.Path.{◌≡◌, sym as inv, ap, ◌∙◌, subst}
 use mathlib.Core.Bool.{Bool, true, false}
