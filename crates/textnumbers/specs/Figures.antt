@@ -1,5 +1,5 @@
 -- How big the figures of printing are, and that the parts of the number are theirs.
-use Rattle.std.specs.Prelude.{ℕ, ◌+◌, ◌*◌, ◌/◌, ◌%◌, ◌^◌, ◌≤◌, ◌<◌, ◌≡◌, refl, List, eqb, length}
+use Rattle.std.specs.Prelude.{ℕ, ◌+◌, ◌*◌, ◌/◌, ◌%◌, ◌^◌, ◌≤◌, ◌<◌, ◌≡◌, refl, List, eqb}
 use Rattle.std.proofs.Common.{sym as inv, subst, inl, inr, arith, eqb-true, eq-eqb, ne_eqb}
 use Rattle.std.proofs.Math.Decide.{ℕ_discrete}
 use Rattle.std.proofs.lemmas.Bool.{eqb-false}
@@ -16,7 +16,7 @@ use Rattle.printing.specs.Renumbered.{book_nodes}
 use Rattle.namelist.specs.Bytes.{is_list, entries_of}
 use Rattle.namelist.specs.NamingLaws.{all_named}
 use Rattle.printouts.specs.declared.Printout.{Printout}
-use Rattle.printouts.specs.Outcome.{refusal, done, outcome, text_by, too_long, print_answer, goal_answer}
+use Rattle.printouts.specs.Outcome.{refusal, outcome, too_long, print_answer, goal_answer}
 use Rattle.printouts.specs.OutcomeLaws.{is-not-good, is-no-list, is-no-name, is-no-room, is-printed, short-means}
 use Rattle.printouts.specs.Answer.{unnumbered, answer_verdict, found_answer}
 use Rattle.textnumbers.specs.Numbers.{text_field, text_number, TextNarrow}

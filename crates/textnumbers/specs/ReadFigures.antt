@@ -1,12 +1,12 @@
 -- How big the figures of reading are, and that the parts of the number are theirs.
-use Rattle.std.specs.Prelude.{ℕ, ◌+◌, ◌*◌, ◌/◌, ◌%◌, ◌^◌, ◌≤◌, ◌<◌, ◌≡◌, refl, List, eqb, length}
-use Rattle.std.proofs.Common.{subst, arith, eq-eqb, ne_eqb}
+use Rattle.std.specs.Prelude.{ℕ, ◌+◌, ◌*◌, ◌/◌, ◌%◌, ◌^◌, ◌≤◌, ◌<◌, ◌≡◌, List, eqb, length}
+use Rattle.std.proofs.Common.{subst, arith, eq-eqb}
 use Rattle.std.proofs.Math.Decide.{dec_lt}
 use Rattle.terms.specs.Cases.{cases}
 use Rattle.grammar.specs.GoodLaws.{reading-good}
-use Rattle.reading.specs.Refusal.{Refusal, long_text}
+use Rattle.reading.specs.Refusal.{long_text}
 use Rattle.readouts.specs.declared.ReadText.{ReadText}
-use Rattle.readouts.specs.Outcome.{refusal, Reads, refuses, two_arities, no_room, reads, read_answer}
+use Rattle.readouts.specs.Outcome.{Reads, refuses, two_arities, no_room, reads, read_answer}
 use Rattle.readouts.specs.OutcomeLaws.{outcome-reads, read_once}
 use Rattle.readouts.specs.Good.{code-low, refusal-coded, refusal-low, formula-low}
 use Rattle.textnumbers.specs.Numbers.{read_field, read_number, ReadNarrow}

@@ -1,17 +1,16 @@
 -- The answer of every run is printed: its check is good, whatever the run's code.
-use Rattle.std.specs.Prelude.{ℕ, zero, suc, ◌+◌, ◌≤◌, ◌<◌, ◌≡◌, refl, true, List, [], ◌∷◌, ◌++◌, map, length, take, drop}
+use Rattle.std.specs.Prelude.{ℕ, zero, suc, ◌≤◌, ◌≡◌, refl, List, [], ◌∷◌, ◌++◌, map, length, take, drop}
 use Rattle.std.proofs.Common.{arith, zero-add, add_comm, sym as inv, ap, ap₂, ◌∙◌, subst, length-append}
 use Rattle.std.proofs.Math.Option.{some, some-injective}
 use Rattle.std.proofs.lemmas.List.{length-map}
 use Rattle.std.proofs.Math.Seq.{take-append_seam}
-use Rattle.terms.specs.Node.{Symbol, constant, compound, predicate, var, sym, Expr}
+use Rattle.terms.specs.Node.{constant, compound, predicate, var, sym, Expr}
 use Rattle.terms.specs.Row.{Row, row_end, row_var, row_sym, Every}
 use Rattle.terms.specs.Subst.{Subst, apply}
 use Rattle.terms.specs.Substitution.{Symbols}
-use Rattle.terms.specs.Number.{Numbered}
 use Rattle.search.specs.Next.{Book, Goal}
 use Rattle.search.specs.Step.{next, next_goal}
-use Rattle.search.specs.Room.{nodes, fits, fits_iff}
+use Rattle.search.specs.Room.{nodes, fits_iff}
 use Rattle.search.specs.Run.{goal_at}
 use Rattle.search.proofs.NextLaws.{next_iff}
 use Rattle.search.proofs.PathLaws.{step-goal}
