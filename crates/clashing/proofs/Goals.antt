@@ -1,31 +1,24 @@
 -- The records of a book, and the nodes of a goal.
-use Prim.Native.Nat.{ℕ, suc, ◌+◌, ◌-◌, ◌≤◌, ◌<◌}
+use Prim.Native.Nat.{ℕ, ◌≤◌}
 use mathlib.Core.Path.{◌≡◌, refl, sym as inv, ap, ap₂, ◌∙◌, subst}
-use mathlib.Core.Bool.{Bool, true, false, not, true≢false}
-use mathlib.Core.List.{List, [], ◌∷◌, ◌++◌, append-nil}
+use mathlib.Core.List.{List, [], ◌∷◌, append-nil}
 use native.Mathlib.Omega.{arith}
-use borrow.Author.Tests.{not-true, not-false}
-use lib.ListN.{length, get_or, drop, length-drop, length-append}
-use lib.Dec.{eqb}
-use Rattle.terms.specs.When.{◌⇒◌∣◌}
+use lib.ListN.{length}
 use Rattle.search.specs.Next as Next
 use Rattle.words.specs.Flat.{flat}
 use Rattle.format.specs.declared.State.{State}
 use Rattle.format.specs.declared.Form.{Form}
 use Rattle.format.specs.declared.Form.TheVariants.{Book, Query}
 use Rattle.format.specs.declared.Record.{Record}
-use Rattle.format.specs.declared.Record.TheVariants.{Variable, Constant, Compound, Formula, Clause, Goal, End}
-use Rattle.format.specs.Format.{Bytes, record_kind, encode_record, encode, node_records, goal_records, book_records, encode_book, GoodGoal}
-use Rattle.format.specs.Reading.{body_length, record_at, in_range, after, start, book_verdict}
+use Rattle.format.specs.Format.{Bytes, encode, node_records, goal_records, book_records, GoodGoal}
+use Rattle.format.specs.Reading.{after, start, book_verdict}
 use Rattle.format.specs.Decode.{book_of}
 use Rattle.format.specs.Faulty.{Complete}
-use Rattle.format.specs.Arities.{Use, record_uses, uses_of, book_uses, goal_uses, OneArity, Memory, nothing_met, meet, meets, recall, keeps, recalled}
+use Rattle.format.specs.Arities.{Use, uses_of, book_uses, Memory, nothing_met, recall, recalled}
 use Rattle.format.specs.ArityLaws.{book-uses, goal-uses}
-use Rattle.format.proofs.Encoded.{encoded}
 use Rattle.format.proofs.Beginnings.{Reads, beginning-reads}
 use Rattle.format.proofs.GoodSizes.{clauses-formed}
 use Rattle.format.proofs.Decoding.{book_of-good, book_of-one}
-use Rattle.scanning.specs.Remembers.{Remembers}
 use Rattle.questions.specs.Outcome.{kept}
 use Rattle.questions.specs.Kept.{kept-all}
 use Rattle.clashing.specs.Meeting.{AllRange, MeetsAll, Met, Nodes, Kept}

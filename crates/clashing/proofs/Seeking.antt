@@ -1,7 +1,7 @@
 -- The search for a formula's place.
 use Prim.Native.Nat.{ℕ, zero, suc, ◌+◌, ◌-◌, ◌≤◌, ◌<◌}
 use mathlib.Core.Path.{◌≡◌, refl, sym as inv, ap, ap₂, ◌∙◌}
-use mathlib.Core.Bool.{Bool, true, false, true≢false, ◌&&◌}
+use mathlib.Core.Bool.{Bool, true, false, true≢false}
 use mathlib.Core.List.{List, [], ◌∷◌}
 use native.Mathlib.Omega.{arith}
 use borrow.Author.Tests.{eq-eqb, ne_eqb}
@@ -12,7 +12,7 @@ use Rattle.terms.specs.Cases.{cases}
 use Rattle.grammar.specs.Token.{name, variable, opening, closing, comma, arrow, stop, Piece, token, blank, comment, spelt}
 use Rattle.grammar.specs.Front as Front
 use Rattle.grammar.specs.Front.{front, piece_before, front_of, pieces_of}
-use Rattle.asking.specs.Asking.{Tally, tally, none_yet, counted, with_comma, closed}
+use Rattle.asking.specs.Asking.{Tally, none_yet, counted, with_comma, closed}
 use Rattle.pieces.specs.Found.{front_at, Shows}
 use Rattle.pieces.specs.declared.Found.{Found}
 use Rattle.pieces.specs.declared.Found.TheVariants as F

@@ -1,5 +1,5 @@
 -- The search for the place of a formula, piece by piece (questions, Outcome: `formula_in`).
-use Rattle.std.specs.Prelude.{ℕ, ◌+◌, ◌-◌, Bool, true, false, List, [], ◌∷◌, length, eqb}
+use Rattle.std.specs.Prelude.{ℕ, ◌+◌, Bool, true, false, eqb}
 use Rattle.terms.specs.When.{◌⇒◌∣◌}
 use Rattle.pieces.specs.declared.Found.{Found}
 use Rattle.pieces.specs.declared.Found.TheVariants as F
