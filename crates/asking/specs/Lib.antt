@@ -3,18 +3,7 @@
 --                in one way only (`refusal-one`); the relation, told without the reader, is in Refusal and Unexpected
 pub mod Asking
 -- The tokens that are taken are those of a goal.
-pub mod MeaningLaws
-pub mod AskedLaws
 -- Those that are not refused for a size are those of a goal within the sizes.
-pub mod WithinLaws
 -- Where and why the reader ends.
-pub mod Gone
-pub mod GoneLaws
-pub mod Viable
-pub mod Unexpected
-pub mod UnexpectedLaws
-pub mod Refusal
-pub mod FaultLaws
-pub mod AheadLaws
-pub mod AskingLaws
+pub mod Accepted
 pub mod Examples

@@ -12,7 +12,7 @@ use Rattle.grammar.specs.NameLaws.{variables-append}
 use Rattle.reading.specs.Part.{Done, none_yet, and_variable, and_name, Part, formulas, inside, filled, terms_of, put}
 use Rattle.reading.specs.Reader.{size, nodes, done_variables, formulas_variables, variables}
 use Rattle.reading.specs.SizeLaws.{variables-spots}
-use Rattle.reading.specs.LimitLaws.{SmallPart}
+use Rattle.reading.specs.Limits.{SmallPart}
 use Rattle.reading.specs.Draft.{done_spots, formulas_drafts, sort_in, drafts, raise, drafts-count, opened-raised, variable-drafts, closing-formula, closing-argument}
 use Rattle.drafts.specs.declared.Draft.{Draft}
 use Rattle.drafts.specs.Drafted.{Tables, weight, Drafted, AddsVariable}

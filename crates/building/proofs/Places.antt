@@ -10,7 +10,7 @@ use Rattle.grammar.specs.Names as Names
 use Rattle.grammar.specs.Names.{Sort, Spot, symbol_spot}
 use Rattle.reading.specs.Part.{Done, none_yet, Part, formulas, inside, put}
 use Rattle.reading.specs.Reader.{size, nodes}
-use Rattle.reading.specs.LimitLaws.{SmallPart}
+use Rattle.reading.specs.Limits.{SmallPart}
 use Rattle.reading.specs.Draft.{done_spots, sort_in, drafts, raise, drafts-append, drafts-count, opened-raised, opening-drafts, formula-drafts, constant-drafts}
 use Rattle.nametable.specs.Table.{word}
 use Rattle.drafts.specs.declared.Kind.{Kind}

@@ -4,7 +4,7 @@ use Rattle.grammar.specs.Syntax.{Formula, none}
 use Rattle.grammar.specs.Names.{variable_number}
 use Rattle.reading.specs.Part.{Done, none_yet, and_variable, Part, formulas, inside, filled, terms_of, put}
 use Rattle.reading.specs.Reader.{nodes, variables}
-use Rattle.reading.specs.LimitLaws.{SmallPart}
+use Rattle.reading.specs.Limits.{SmallPart}
 use Rattle.reading.specs.Draft.{drafts}
 use Rattle.nametable.specs.Table.{word}
 use Rattle.drafts.specs.declared.Kind.{Kind}

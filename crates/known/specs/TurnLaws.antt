@@ -13,7 +13,7 @@ use Rattle.namelist.specs.List.{Entry, listed, Before, ToEach, Along, IsList}
 use Rattle.namelist.specs.Bytes.{entries_of, is_list}
 use Rattle.namelist.specs.Meaning.{list-means, entries-are}
 use Rattle.namelist.specs.Tests.{no_test, passed, behind}
-use Rattle.printing.specs.OrderLaws.{same-sort}
+use Rattle.printing.proofs.OrderLaws.{same-sort}
 use Rattle.namelist.specs.NamingLaws.{entry}
 use Rattle.namelist.specs.Table.{entries_on, table_entries, table-list}
 use Rattle.questions.specs.Given.{names_of, given_from, gives, gives-means}

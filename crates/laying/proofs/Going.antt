@@ -9,7 +9,7 @@ use Rattle.grammar.specs.TokenLaws.{front-is, fits-stays, spelt-long}
 use Rattle.grammar.specs.Front.{front, front_of}
 use Rattle.grammar.specs.Syntax.{Formula}
 use Rattle.grammar.specs.Query.{Given}
-use Rattle.asking.specs.FaultLaws.{Accepted}
+use Rattle.asking.specs.Accepted.{Accepted}
 use Rattle.pieces.specs.Found.{front_at, Shows}
 use Rattle.pieces.specs.declared.Found.{Found}
 use Rattle.pieces.specs.Found.{end_of}

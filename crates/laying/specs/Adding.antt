@@ -4,7 +4,7 @@ use Rattle.grammar.specs.Token.{Piece, token, blank, comment, bytes, Spaced, tok
 use Rattle.grammar.specs.Front.{front}
 use Rattle.grammar.specs.Syntax.{Formula}
 use Rattle.grammar.specs.Query.{Given}
-use Rattle.asking.specs.FaultLaws.{Accepted}
+use Rattle.asking.specs.Accepted.{Accepted}
 use Rattle.pieces.specs.Found.{front_at, Inside}
 use Rattle.pieces.specs.declared.Found.{Found}
 use Rattle.pieces.specs.declared.Found.TheVariants as F

@@ -6,7 +6,7 @@ use Rattle.grammar.specs.Token.{Token, name, variable, opening, closing, comma, 
 use Rattle.grammar.specs.Syntax.{Terms, none, variable_then, name_then, Formula, Turn, first, later, arguments_then}
 use Rattle.grammar.specs.Names.{Spot, formulas_spots, spots_then}
 use Rattle.grammar.specs.Query.{Given, more_then, ends_with, End, open_end, full_stop, asked}
-use Rattle.asking.specs.FaultLaws.{Accepted}
+use Rattle.asking.specs.Accepted.{Accepted}
 use Rattle.laying.specs.Page.{Page, page, blank_page, step, opens, run, bracketed, over}
 use Rattle.laying.specs.PageLaws.{spots_all, formulas_bytes, asked-laid}
 use Rattle.laying.specs.NodeLaws.{spots-more}

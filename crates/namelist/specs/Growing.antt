@@ -4,7 +4,7 @@ use Rattle.std.proofs.Common.{sym as inv, true≢false}
 use Rattle.terms.specs.Cases.{cases}
 use Rattle.grammar.specs.Names.{Sort, Spot, variable_spot, symbol_spot, same_name, within, grow, is_sort, names_after}
 use Rattle.grammar.specs.NameLaws.{same_true}
-use Rattle.printing.specs.SizeLaws.{Fit}
+use Rattle.printing.specs.Fit.{Fit}
 use Rattle.namelist.specs.Table.{EachFit, NoneTwice, other_name}
 
 abbrev pub AllSpots : List Spot → Type 0

@@ -3,7 +3,7 @@ use Rattle.std.specs.Prelude.{ℕ, ◌/◌, ◌%◌, ◌<◌, ◌≡◌, ◌⊎�
 use Rattle.terms.specs.When.{◌⇒◌∣◌}
 use Rattle.grammar.specs.Names.{Sort, kind, is_sort}
 use Rattle.printing.specs.Named.{Naming}
-use Rattle.printing.specs.SizeLaws.{Fit}
+use Rattle.printing.specs.Fit.{Fit}
 
 -- what the symbol of a sort and a number is called
 pub record Entry : Type 0 where

@@ -14,7 +14,7 @@ use Rattle.format.specs.Reading.{number_at}
 use Rattle.grammar.specs.Names.{Sort, Constant, Compound, Predicate, kind, same_name, is_sort}
 use Rattle.grammar.specs.NameLaws.{same_true, same_refl}
 use Rattle.grammar.specs.GrowLaws.{is-sort_self}
-use Rattle.printing.specs.OrderLaws.{same-sort}
+use Rattle.printing.proofs.OrderLaws.{same-sort}
 use Rattle.namelist.specs.List.{Entry, listed, Before, ToEach, Along, Proper, Apart, IsList}
 use Rattle.namelist.specs.Bytes.{is_name, sort_of, length_at, name_at, entry_at, rank, rank_at, past, entry_good, good_from, entries_from, entries_of, shares, unshared, all_unshared, is_list}
 use Rattle.namelist.specs.ListLaws.{Stands, entered, stands-more}

@@ -7,9 +7,9 @@ use Rattle.terms.specs.Node.{constant, compound, predicate, Node, var, sym, Expr
 use Rattle.grammar.specs.Names.{Sort, Constant, Compound, Predicate, symbol_for, is_sort}
 use Rattle.grammar.specs.GrowLaws.{is-sort_self}
 use Rattle.printing.specs.Renumbered.{Uses}
-use Rattle.printing.specs.UseLaws.{Distinct}
-use Rattle.printing.specs.OrderLaws.{same-sort}
-use Rattle.printing.specs.SizeLaws.{Fit, AllFit}
+use Rattle.printing.proofs.UseLaws.{Distinct}
+use Rattle.printing.proofs.OrderLaws.{same-sort}
+use Rattle.printing.specs.Fit.{Fit, AllFit}
 use Rattle.namelist.specs.List.{Entry, ToEach, Along, Proper, Apart, In, naming}
 use Rattle.namelist.specs.Tests.{no_test, passed, behind}
 

@@ -7,7 +7,7 @@ use Rattle.grammar.specs.Syntax.{Terms, none, variable_then, name_then, Formula,
 use Rattle.grammar.specs.Names.{Sort, Spot, variable_spot, symbol_spot, spots_then, formula_spots, formulas_spots, text_spots, names}
 use Rattle.grammar.specs.Reading.{Small, SmallFormulas, SmallRules, Writes}
 use Rattle.grammar.specs.Query.{End, more_then, ends_with, asked, Asks, SizedQuery}
-use Rattle.printing.specs.SpacingLaws.{Right, RightFormulas, RightRules}
+use Rattle.printing.proofs.SpacingLaws.{Right, RightFormulas, RightRules}
 use Rattle.namelist.specs.Table.{EachFit}
 use Rattle.namelist.specs.Growing.{AllSpots, fit-after}
 

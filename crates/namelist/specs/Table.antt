@@ -6,7 +6,7 @@ use Rattle.grammar.specs.Names.{Sort, Constant, Compound, Predicate, same_name, 
 use Rattle.grammar.specs.NameLaws.{same_refl}
 use Rattle.grammar.specs.GrowLaws.{is-sort_self}
 use Rattle.grammar.specs.Query.{Given}
-use Rattle.printing.specs.SizeLaws.{Fit}
+use Rattle.printing.specs.Fit.{Fit}
 use Rattle.namelist.specs.List.{Entry, listed, Before, ToEach, Along, Proper, Apart, IsList, naming}
 use Rattle.namelist.specs.NamingLaws.{entry}
 

@@ -20,11 +20,11 @@ use Rattle.grammar.specs.Reading.{Reading, reading-one}
 use Rattle.grammar.specs.GoodLaws.{reading-good}
 use Rattle.printing.specs.Named.{Naming, printed, named_rules}
 use Rattle.printing.specs.Renumbered.{Renumbering, renumber_book, Uses, book_nodes, OneToOne}
-use Rattle.printing.specs.UseLaws.{names_are, Distinct}
+use Rattle.printing.proofs.UseLaws.{names_are, Distinct}
 use Rattle.printing.specs.FirstLaws.{names_below}
-use Rattle.printing.specs.SizeLaws.{AllFit}
-use Rattle.printing.specs.OrderLaws.{Coded, book-coded, all-used, used_low, same_names, symbol-same}
-use Rattle.printing.specs.Theorem.{renumbering, low-one, printed-reads, printed-back, printed-same}
+use Rattle.printing.specs.Fit.{AllFit}
+use Rattle.printing.proofs.OrderLaws.{Coded, book-coded, all-used, used_low, same_names, symbol-same}
+use Rattle.printing.proofs.Theorem.{renumbering, low-one, printed-reads, printed-back, printed-same}
 use Rattle.namelist.specs.List.{Entry, IsList, naming}
 use Rattle.namelist.specs.Meaning.{entries-one}
 use Rattle.namelist.specs.NamingLaws.{AllNamed, some, named-means, named-fit, named-distinct}

@@ -20,11 +20,12 @@ use Rattle.grammar.specs.Query.{Given, names_with, goal, ReadingQuery, query-one
 use Rattle.printing.specs.Named.{Naming, named_formulas, printed_goal}
 use Rattle.printing.specs.NamedLaws.{spots, formulas_spotted}
 use Rattle.printing.specs.Renumbered.{Renumbering, renumber_goal, Uses}
-use Rattle.printing.specs.RenumberLaws.{places, goal-numbered}
-use Rattle.printing.specs.UseLaws.{spot-names, stays-book}
-use Rattle.printing.specs.OrderLaws.{same-sort, symbol-same}
-use Rattle.printing.specs.SpacingLaws.{goal-asks}
-use Rattle.printing.specs.SizeLaws.{AllFit, formulas-right, formulas-small, formulas-length, spots-length}
+use Rattle.printing.proofs.RenumberLaws.{places, goal-numbered}
+use Rattle.printing.proofs.UseLaws.{spot-names, stays-book}
+use Rattle.printing.proofs.OrderLaws.{same-sort, symbol-same}
+use Rattle.printing.proofs.SpacingLaws.{goal-asks}
+use Rattle.printing.proofs.SizeLaws.{formulas-right, formulas-small, formulas-length, spots-length}
+use Rattle.printing.specs.Fit.{AllFit}
 use Rattle.namelist.specs.List.{Entry, IsList, naming}
 use Rattle.namelist.specs.NamingLaws.{AllNamed, some, named-means, named-is, named-fit, named-distinct}
 use Rattle.printouts.specs.declared.Printout.{Printout}

@@ -17,8 +17,8 @@ use Rattle.grammar.specs.Names.{Sort, list_of}
 use Rattle.grammar.specs.Query.{Given, names_with, goal}
 use Rattle.grammar.specs.GoodLaws.{query_good}
 use Rattle.asking.specs.Asking.{read, asking}
-use Rattle.asking.specs.FaultLaws.{Accepted}
-use Rattle.asking.specs.AskingLaws.{asking_iff}
+use Rattle.asking.specs.Accepted.{Accepted}
+use Rattle.asking.proofs.AskingLaws.{asking_iff}
 use Rattle.readouts.specs.ClashLaws.{formulas-uses}
 use Rattle.storage.specs.Storage.{Written}
 use Rattle.storage.proofs.Filling.{written_as}

@@ -12,7 +12,7 @@ use Rattle.nametable.specs.Table.{word}
 use Rattle.stages.proofs.Kept.{word-long}
 use Rattle.namelist.specs.Table.{EachFit}
 use Rattle.namelist.specs.SpeltLaws.{asks-fit}
-use Rattle.asking.specs.FaultLaws.{Accepted}
+use Rattle.asking.specs.Accepted.{Accepted}
 use Rattle.questions.specs.Given.{Gives, given_from, gives-means, lists-same}
 use Rattle.questions.specs.NewNames.{with_good}
 use Rattle.known.specs.declared.Known.{Known}

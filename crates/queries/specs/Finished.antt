@@ -2,7 +2,7 @@
 use Rattle.std.specs.Prelude.{ℕ, ◌≤◌, ◌≡◌, List, [], length, take}
 use Rattle.format.specs.Reading.{book_verdict}
 use Rattle.grammar.specs.Syntax.{Formula}
-use Rattle.asking.specs.FaultLaws.{Accepted}
+use Rattle.asking.specs.Accepted.{Accepted}
 use Rattle.questions.specs.Given.{given_from}
 use Rattle.questions.specs.Outcome.{uses, suited}
 use Rattle.known.specs.declared.Known.{Known}

@@ -14,7 +14,7 @@ use Rattle.format.proofs.Meaning.{query-book}
 use Rattle.format.proofs.Decoding.{goal_of-suits}
 use Rattle.grammar.specs.Names.{list_of}
 use Rattle.grammar.specs.Query.{Given, names_with, goal, ReadingQuery}
-use Rattle.asking.specs.FaultLaws.{Accepted}
+use Rattle.asking.specs.Accepted.{Accepted}
 use Rattle.namelist.specs.List.{Entry, IsList, naming}
 use Rattle.namelist.specs.Meaning.{entries-one}
 use Rattle.namelist.specs.Table.{table_entries, table-naming}

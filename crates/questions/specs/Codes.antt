@@ -6,8 +6,8 @@ use Rattle.format.specs.Format.{Bytes}
 use Rattle.format.proofs.Longest.{good-short}
 use Rattle.grammar.specs.Token.{Token, bytes, spelling}
 use Rattle.grammar.specs.GoodLaws.{query_good}
-use Rattle.asking.specs.Unexpected.{Unexpected, too_early, no_further}
-use Rattle.asking.specs.Refusal.{StandsAt, Fault, unexpected_byte, longest_name, out_of_range, nodes_passed, Refusal, long_text, first_fault}
+use Rattle.asking.proofs.Unexpected.{Unexpected, too_early, no_further}
+use Rattle.asking.proofs.Refusal.{StandsAt, Fault, unexpected_byte, longest_name, out_of_range, nodes_passed, Refusal, long_text, first_fault}
 use Rattle.questions.specs.declared.ReadQuery.{ReadQuery}
 use Rattle.questions.specs.Place.{FormulaAt}
 use Rattle.questions.specs.Outcome.{outcome}

@@ -19,9 +19,9 @@ use Rattle.namelist.specs.List.{IsList}
 use Rattle.namelist.specs.Table.{table_entries, table-list}
 use Rattle.namelist.specs.SpeltLaws.{asks-fit}
 use Rattle.asking.specs.Asking.{Outcome, read, refused, asking}
-use Rattle.asking.specs.Refusal.{Refusal}
-use Rattle.asking.specs.FaultLaws.{Accepted}
-use Rattle.asking.specs.AskingLaws.{refusal-code, asking_iff, refusal_iff}
+use Rattle.asking.proofs.Refusal.{Refusal}
+use Rattle.asking.specs.Accepted.{Accepted}
+use Rattle.asking.proofs.AskingLaws.{refusal-code, asking_iff, refusal_iff}
 use Rattle.questions.specs.declared.ReadQuery.{ReadQuery}
 use Rattle.questions.specs.Given.{Gives, given_from, gives, gives-means, gives-is, given_is}
 use Rattle.questions.specs.NewNames.{with_good, names-begin}

@@ -6,8 +6,8 @@ use Rattle.grammar.specs.TokenLaws.{spelt-long}
 use Rattle.grammar.specs.Front.{pieces_of}
 use Rattle.grammar.specs.Syntax.{Terms, none, variable_then, name_then, Formula, Turn, first, later, arguments_then, formula_then}
 use Rattle.grammar.specs.Query.{more_then, ends_with, Asks}
-use Rattle.reading.specs.Stop.{SpacedTo}
-use Rattle.reading.specs.Viable.{bytes-append}
+use Rattle.reading.proofs.Stop.{SpacedTo}
+use Rattle.reading.proofs.Viable.{bytes-append}
 use Rattle.asking.specs.Asking.{Tally, tally, none_yet, counted}
 use Rattle.readouts.specs.Place.{commas_then}
 use Rattle.readouts.specs.PlaceLaws.{pieces-past, pieces-few, name-first}

@@ -12,7 +12,8 @@ use Rattle.grammar.specs.Names.{variable_number}
 use Rattle.reading.specs.Part.{none_yet, Part, formulas, inside, Mode, named, complete, expects, State, state, put, next, settle}
 use Rattle.reading.specs.Reader.{nodes, variables, going, judge_taken, judge_token, judge}
 use Rattle.reading.specs.SizeLaws.{put-variables}
-use Rattle.reading.specs.LimitLaws.{SmallState, settle-small}
+use Rattle.reading.proofs.LimitLaws.{settle-small}
+use Rattle.reading.specs.Limits.{SmallState}
 use Rattle.pieces.specs.Found as Found
 use Rattle.pieces.specs.Found.{front_at}
 use Rattle.pieces.specs.declared.Found.{Found}

@@ -11,7 +11,7 @@ use Rattle.grammar.specs.Syntax.{none, Rule}
 use Rattle.grammar.specs.Names.{variable_number}
 use Rattle.reading.specs.Part.{and_variable, Part, formulas, inside, Mode, State, state, terms_of, put, settle}
 use Rattle.reading.specs.Reader.{variables, going, judge}
-use Rattle.reading.specs.LimitLaws.{SmallState}
+use Rattle.reading.specs.Limits.{SmallState}
 use Rattle.pieces.specs.Found as Found
 use Rattle.pieces.specs.Found.{front_at}
 use Rattle.pieces.specs.declared.Found.{Found}

@@ -9,7 +9,7 @@ use Rattle.grammar.specs.Token.{stop, token}
 use Rattle.grammar.specs.Syntax.{Formula, Rule}
 use Rattle.grammar.specs.Names.{Spot, rule_spots}
 use Rattle.reading.specs.Part.{formulas, Mode, State, state, rule_of}
-use Rattle.reading.specs.LimitLaws.{SmallState}
+use Rattle.reading.specs.Limits.{SmallState}
 use Rattle.reading.specs.Draft.{stop-drafts}
 use Rattle.stages.specs.Stage.{root_count}
 use Rattle.pieces.specs.declared.Found.{Found}

@@ -15,7 +15,7 @@ use Rattle.grammar.specs.NameLaws.{Numbers, fresh, known, numbers}
 use Rattle.reading.specs.Part.{none_yet, Part, formulas, inside, rule_of, Mode, between, expects, named, complete, State, state, start, Taken, taken, wrong, next, settle, is_opening}
 use Rattle.reading.specs.Reader as Reader
 use Rattle.reading.specs.Reader.{variables, limit, long, going, bad, judge_taken, judge_token, judge, Outcome, read, refused, ended, go_on, from_front, walk}
-use Rattle.reading.specs.Whole.{Healthy, HealthyTaken, next-healthy, settle-healthy}
+use Rattle.reading.proofs.Whole.{Healthy, HealthyTaken, next-healthy, settle-healthy}
 use Rattle.pieces.specs.Found as Found
 use Rattle.pieces.specs.Found.{Inside, Shows, front_at}
 use Rattle.pieces.specs.declared.Found.{Found}

@@ -6,7 +6,7 @@ use Rattle.grammar.specs.Token.{Token, name, variable, opening, closing, comma, 
 use Rattle.grammar.specs.Syntax.{none, Formula, Rule}
 use Rattle.reading.specs.Part.{Done, and_variable, Part, formulas, inside, Mode, between, expects, named, complete, State, state, Taken, taken, wrong, filled, comma_may, arrow_may, rule_of, terms_of, put, next, settle}
 use Rattle.reading.specs.Reader.{nodes, limit, long, going, judge_taken, judge_token}
-use Rattle.reading.specs.LimitLaws.{variable-passes}
+use Rattle.reading.proofs.LimitLaws.{variable-passes}
 
 abbrev pub Stays : Token → Type 0
 Stays (name w) = Unit {0}

@@ -5,7 +5,7 @@ use Rattle.grammar.specs.Front as Front
 use Rattle.grammar.specs.Syntax.{Rule}
 use Rattle.grammar.specs.Names.{rule_spots, variable_number}
 use Rattle.reading.specs.Part.{Part, formulas, inside, State, settle}
-use Rattle.reading.specs.LimitLaws.{SmallState}
+use Rattle.reading.specs.Limits.{SmallState}
 use Rattle.reading.specs.Reader as Reader
 use Rattle.reading.specs.Reader.{variables, judge}
 use Rattle.pieces.specs.Found as Found

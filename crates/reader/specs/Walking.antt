@@ -3,7 +3,7 @@ use Rattle.std.specs.Prelude.{ℕ, suc, ◌-◌, ◌≤◌, ◌<◌, ◌≡◌, 
 use Rattle.grammar.specs.Syntax.{Rule}
 use Rattle.reading.specs.Part.{formulas, between, State, state, start, rules_of}
 use Rattle.reading.specs.Reader as Reader
-use Rattle.reading.specs.Whole.{Healthy}
+use Rattle.reading.proofs.Whole.{Healthy}
 use Rattle.reading.specs.Reader.{Outcome, walk}
 use Rattle.stages.specs.declared.Mode.{Mode}
 use Rattle.stages.specs.declared.Mode.TheVariants.{Between, Expects, Named, Complete}

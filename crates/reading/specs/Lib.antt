@@ -6,28 +6,10 @@ pub mod Reader
 -- What is read is written in the text, and kept to the sizes.
 pub mod PrintLaws
 pub mod SizeLaws
-pub mod LimitLaws
-pub mod SoundLaws
+pub mod Limits
 -- Rules that keep to the sizes are read.
 pub mod RunLaws
-pub mod CompleteLaws
-pub mod ReadingLaws
 -- Where and why the reader stops.
-pub mod Stop
-pub mod StopLaws
-pub mod Whole
-pub mod Viable
-pub mod GoesLaws
-pub mod Unexpected
-pub mod FirstLaws
-pub mod UnexpectedLaws
-pub mod Refusal
 -- Where a relation holds, the reader refuses so.
-pub mod PartialLaws
-pub mod ReachLaws
-pub mod RefusedLaws
-pub mod AloneLaws
-pub mod RefusalLaws
 -- The nodes of what is read in part.
 pub mod Draft
-pub mod Examples

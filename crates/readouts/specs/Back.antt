@@ -17,7 +17,7 @@ use Rattle.grammar.specs.GoodLaws.{reading-good}
 use Rattle.printing.specs.Named.{Naming, printed}
 use Rattle.printing.specs.Renumbered.{Renumbering, renumber_book, book_nodes, OneToOne}
 use Rattle.printing.specs.ImageLaws.{book-long}
-use Rattle.printing.specs.ArityLaws.{renumbered-one}
+use Rattle.printing.proofs.ArityLaws.{renumbered-one}
 use Rattle.namelist.specs.List.{Entry, IsList}
 use Rattle.namelist.specs.Meaning.{entries-one}
 use Rattle.namelist.specs.NamingLaws.{AllNamed, Named}

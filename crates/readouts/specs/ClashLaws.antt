@@ -12,7 +12,7 @@ use Rattle.format.specs.declared.Record.TheVariants.{Formula}
 use Rattle.format.specs.Arities.{Use, node_uses, goal_uses, book_uses, Used, OneArity, Memory, nothing_met, recall, keeps}
 use Rattle.format.specs.ArityLaws.{recall-append, used-left, used-right, arity_iff, one_more}
 use Rattle.format.proofs.Meaning.{one_none}
-use Rattle.printing.specs.ArityLaws.{uses-append}
+use Rattle.printing.proofs.ArityLaws.{uses-append}
 use Rattle.readouts.specs.declared.Arities.{Arities}
 use Rattle.readouts.specs.declared.Arities.TheVariants.{One, Two}
 use Rattle.readouts.specs.Place.{formulas_in}

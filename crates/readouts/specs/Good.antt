@@ -13,7 +13,7 @@ use Rattle.grammar.specs.Names.{names}
 use Rattle.grammar.specs.Reading.{Reading}
 use Rattle.grammar.specs.GoodLaws.{reading-checked}
 use Rattle.reading.specs.Part.{State}
-use Rattle.reading.specs.Refusal.{Before, Refusal, long_text, unexpected_byte, unexpected_second, longest_name, out_of_range, size_passed, long_book}
+use Rattle.reading.proofs.Refusal.{Before, Refusal, long_text, unexpected_byte, unexpected_second, longest_name, out_of_range, size_passed, long_book}
 use Rattle.namelist.specs.List.{IsList}
 use Rattle.namelist.specs.Table.{table_entries}
 use Rattle.printouts.specs.Again.{read-list}

@@ -8,7 +8,7 @@ use Rattle.grammar.specs.Syntax.{Rule}
 use Rattle.grammar.specs.Names.{book, name_list}
 use Rattle.grammar.specs.Reading.{Reading}
 use Rattle.reading.specs.Reader as Reader
-use Rattle.reading.specs.Refusal.{Refusal}
+use Rattle.reading.proofs.Refusal.{Refusal}
 use Rattle.readouts.specs.declared.ReadText.{ReadText}
 use Rattle.readouts.specs.declared.Arities.{Arities}
 use Rattle.readouts.specs.declared.Arities.TheVariants.{One, Two}

@@ -11,8 +11,8 @@ use Rattle.grammar.specs.Syntax.{Rule}
 use Rattle.grammar.specs.Names.{book, name_list}
 use Rattle.grammar.specs.Reading.{Reading}
 use Rattle.reading.specs.Reader as Reader
-use Rattle.reading.specs.ReadingLaws.{reading-sound, reading-complete}
-use Rattle.reading.specs.RefusalLaws.{refusal_iff}
+use Rattle.reading.proofs.ReadingLaws.{reading-sound, reading-complete}
+use Rattle.reading.proofs.RefusalLaws.{refusal_iff}
 use Rattle.readouts.specs.declared.ReadText.{ReadText}
 use Rattle.readouts.specs.declared.Arities.{Arities}
 use Rattle.readouts.specs.declared.Arities.TheVariants.{One, Two}

@@ -3,7 +3,7 @@ use Rattle.std.specs.Prelude.{ℕ, zero, suc, ◌+◌, ◌-◌, ◌≡◌, List,
 use Rattle.grammar.specs.Token.{Token, name, variable, opening, closing, comma, arrow, stop, Piece, token, blank, comment, bytes, Stands, tokens}
 use Rattle.grammar.specs.Front.{pieces_of}
 use Rattle.grammar.specs.Syntax.{Formula, Rule, formula_then, body_then}
-use Rattle.reading.specs.Stop.{SpacedTo}
+use Rattle.reading.proofs.Stop.{SpacedTo}
 
 -- the tokens of formulas that another one follows in their rule: `:-` behind the head, a comma behind each one of the body
 abbrev pub commas_then : List Formula → List Token → List Token

@@ -5,8 +5,8 @@ use Rattle.grammar.specs.Token.{Token, name, variable, opening, closing, comma, 
 use Rattle.grammar.specs.TokenLaws.{front-is, fits-stays, spelt-long}
 use Rattle.grammar.specs.Front.{pieces_of}
 use Rattle.grammar.specs.Syntax.{Terms, none, variable_then, name_then, Formula, Rule, Turn, first, later, arguments_then, formula_then, body_then}
-use Rattle.reading.specs.Stop.{SpacedTo}
-use Rattle.reading.specs.Viable.{first-stays}
+use Rattle.reading.proofs.Stop.{SpacedTo}
+use Rattle.reading.proofs.Viable.{first-stays}
 use Rattle.readouts.specs.Place.{commas_then, leading_then, rules_then, formulas_in, FormulaAt, seek, formula_place}
 
 -- Names outside brackets

@@ -6,8 +6,8 @@ use Rattle.grammar.specs.Token.{Token, name, variable, opening, comma, arrow, Pi
 use Rattle.grammar.specs.TokenLaws.{fits-stays}
 use Rattle.grammar.specs.Syntax.{Terms, none, variable_then, name_then, Formula, Rule, Turn, first, later, arguments_then, formula_then, body_then, written}
 use Rattle.grammar.specs.Reading.{Writes}
-use Rattle.reading.specs.Stop.{SpacedTo}
-use Rattle.reading.specs.Viable.{bytes-append}
+use Rattle.reading.proofs.Stop.{SpacedTo}
+use Rattle.reading.proofs.Viable.{bytes-append}
 use Rattle.readouts.specs.Place.{commas_then, leading_then, rules_then, formulas_in, FormulaAt, formula_place}
 use Rattle.readouts.specs.PlaceLaws.{place_is}
 

@@ -11,7 +11,8 @@ use Rattle.grammar.specs.Syntax.{none, Rule}
 use Rattle.reading.specs.Part.{Part, formulas, inside, Mode, between, expects, named, complete, State, state, Taken, taken, wrong, on_word, put, next, settle, behind}
 use Rattle.reading.specs.Reader.{full, nodes, limit, long, Judged, going, bad, judge_taken, judge_token}
 use Rattle.reading.specs.SizeLaws.{put-nodes, put-variables}
-use Rattle.reading.specs.LimitLaws.{SmallPart, SmallMode, SmallState, SmallTaken, next_small, settle-small}
+use Rattle.reading.proofs.LimitLaws.{next_small, settle-small}
+use Rattle.reading.specs.Limits.{SmallPart, SmallMode, SmallState, SmallTaken}
 use Rattle.nametable.specs.Table.{word}
 use Rattle.stages.specs.declared.Mode as M
 use Rattle.stages.specs.declared.Mode.TheVariants.{Between, Expects, Named, Complete}

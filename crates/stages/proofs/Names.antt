@@ -14,7 +14,7 @@ use Rattle.grammar.specs.Names.{variable_number, with_variable}
 use Rattle.grammar.specs.NameLaws.{Numbers, fresh, known, numbers, variable-low}
 use Rattle.reading.specs.Part.{and_variable, Part, formulas, inside, Mode, named, complete, State, state, Taken, wrong, variable_in, next}
 use Rattle.reading.specs.Reader.{full, crowded, variables, limit, long, going, bad, sized, judge_taken, judge_token}
-use Rattle.reading.specs.LimitLaws.{name-passes}
+use Rattle.reading.proofs.LimitLaws.{name-passes}
 use Rattle.stages.specs.declared.Mode as M
 use Rattle.stages.specs.declared.Mode.TheVariants.{Between, Expects, Named, Complete}
 use Rattle.stages.specs.declared.Stage.{Stage}

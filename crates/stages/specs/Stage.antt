@@ -8,7 +8,7 @@ use Rattle.reading.specs.Part as Part
 use Rattle.reading.specs.Part.{Done, Part, formulas, inside, State, state}
 use Rattle.reading.specs.Reader as Reader
 use Rattle.reading.specs.Reader.{size, full, crowded, nodes, variables, judge, Outcome, refused, from_front}
-use Rattle.reading.specs.LimitLaws.{SmallState}
+use Rattle.reading.specs.Limits.{SmallState}
 use Rattle.pieces.specs.Found.{front_at}
 use Rattle.pieces.specs.declared.Found.{Found}
 use Rattle.pieces.specs.declared.Found.TheVariants as F

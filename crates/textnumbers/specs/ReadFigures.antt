@@ -4,7 +4,7 @@ use Rattle.std.proofs.Common.{subst, arith, eq-eqb}
 use Rattle.std.proofs.Math.Decide.{dec_lt}
 use Rattle.terms.specs.Cases.{cases}
 use Rattle.grammar.specs.GoodLaws.{reading-good}
-use Rattle.reading.specs.Refusal.{long_text}
+use Rattle.reading.proofs.Refusal.{long_text}
 use Rattle.readouts.specs.declared.ReadText.{ReadText}
 use Rattle.readouts.specs.Outcome.{Reads, refuses, two_arities, no_room, reads, read_answer}
 use Rattle.readouts.specs.OutcomeLaws.{outcome-reads, read_once}

@@ -20,8 +20,8 @@ use Rattle.grammar.specs.Syntax.{Rule}
 use Rattle.reading.specs.Part.{formulas, between, state, rules_of}
 use Rattle.reading.specs.Reader as Reader
 use Rattle.reading.specs.Reader.{Outcome, fitting, reading}
-use Rattle.reading.specs.ReadingLaws.{reading-sound}
-use Rattle.reading.specs.Refusal.{refusal}
+use Rattle.reading.proofs.ReadingLaws.{reading-sound}
+use Rattle.reading.proofs.Refusal.{refusal}
 use Rattle.nametable.specs.Table.{word}
 use Rattle.symbols.specs.Sections.{Holds}
 use Rattle.drafts.specs.declared.Draft.{Draft}

@@ -3,8 +3,8 @@ use Rattle.std.specs.Prelude.{ℕ, ◌≡◌, refl, ◌↔◌, List}
 use Rattle.std.proofs.Common.{sym as inv, ◌∙◌, arith}
 use Rattle.grammar.specs.Syntax.{Formula}
 use Rattle.asking.specs.Asking.{Outcome, read, refused, asking}
-use Rattle.asking.specs.FaultLaws.{Accepted}
-use Rattle.asking.specs.AskingLaws.{refusal-code, asking_iff, refusal_iff}
+use Rattle.asking.specs.Accepted.{Accepted}
+use Rattle.asking.proofs.AskingLaws.{refusal-code, asking_iff, refusal_iff}
 use Rattle.turns.specs.declared.TextCheck.{TextCheck}
 use Rattle.turns.specs.Passing.{text_check}
 

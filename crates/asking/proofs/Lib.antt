@@ -1,0 +1,12 @@
+pub mod AheadLaws
+pub mod AskedLaws
+pub mod AskingLaws
+pub mod FaultLaws
+pub mod MeaningLaws
+pub mod UnexpectedLaws
+pub mod Viable
+pub mod WithinLaws
+pub mod Gone
+pub mod GoneLaws
+pub mod Refusal
+pub mod Unexpected
