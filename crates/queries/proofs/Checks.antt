@@ -1,5 +1,5 @@
 -- What is refused before a text is laid down.
-use Prim.Native.Nat.{ℕ, ◌-◌, ◌≤◌}
+use Prim.Native.Nat.{ℕ, ◌≤◌}
 use mathlib.Core.Path.{◌≡◌, refl, sym as inv, ap, ◌∙◌}
 use mathlib.Core.Bool.{Bool, true, false, not}
 use mathlib.Core.List.{List}
@@ -16,12 +16,11 @@ use Rattle.turns.specs.Passing.{text_check}
 use Rattle.turns.specs.Once.{check-text-means}
 use Rattle.questions.specs.declared.ReadQuery.{ReadQuery}
 use Rattle.questions.specs.Given.{Gives, given_from, gives, gives-means}
-use Rattle.questions.specs.Outcome.{refusal, outcome, query_area, list_area}
+use Rattle.questions.specs.Outcome.{refusal}
 use Rattle.questions.specs.OutcomeLaws.{Is, is-not-good, is-no-list, is-bad-text}
 use Rattle.known.specs.declared.Known.{Known}
 use Rattle.known.specs.Known.{Knows}
 use Rattle.laying.specs.declared.Kind.{Kind}
-use Rattle.laying.specs.declared.Kind.TheVariants as Kind
 use Rattle.laying.specs.Words.{given_of, list_of}
 use Rattle.queries.specs.Finished.{Ready}
 use Rattle.queries.proofs.Finishing.{answers}
@@ -33,10 +32,6 @@ untrue false e = refl
 true-then : (b : Bool) → not b ≡ false → b ≡ true
 true-then true e = refl
 true-then false e = inv e
-
-pub all_three : {text book names query list : List ℕ} {r : ReadQuery} {q l : List ℕ} → Is text book names query list r q l →
-    ((r ≡ outcome text book names query list) × ((q ≡ query_area text book names query list) × (l ≡ list_area text book names query list)))
-all_three i = (i.answer, (i.query_is, i.list_is))
 
 module _ (book : List ℕ) (v : Check) (said : v ≡ book_verdict book) where
   code-said : v.code ≡ (book_verdict book).code

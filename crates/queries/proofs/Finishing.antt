@@ -30,7 +30,7 @@ use Rattle.known.specs.declared.Known.{Known}
 use Rattle.laying.specs.declared.Draft.{Draft}
 use Rattle.laying.specs.PageLaws.{formulas_bytes}
 use Rattle.laying.specs.NodeLaws.{image-laid}
-use Rattle.laying.specs.Words.{Kept, Knowing}
+use Rattle.laying.specs.Words.{Knowing}
 use Rattle.clashing.specs.Meeting as Meeting
 use Rattle.relisting.specs.Relisted.{Relists, Sizes, Listable, with_own}
 use Rattle.relisting.proofs.Whole.{two-written}

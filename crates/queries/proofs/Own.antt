@@ -6,9 +6,8 @@ use native.Mathlib.Omega.{arith}
 use lib.ListN.{length, get_or, length-append}
 use Rattle.format.specs.Format.{Bytes}
 use Rattle.grammar.specs.Syntax.{Formula}
-use Rattle.grammar.specs.Names.{Sort, Constant, Compound, Predicate, kind, entries, list_of}
-use Rattle.grammar.specs.Query.{Given, names_with}
-use Rattle.nametable.specs.Table.{word}
+use Rattle.grammar.specs.Names.{Sort, Constant, Compound, Predicate, entries, list_of}
+use Rattle.grammar.specs.Query.{names_with}
 use Rattle.stages.proofs.Kept.{word-long}
 use Rattle.namelist.specs.Table.{EachFit}
 use Rattle.namelist.specs.SpeltLaws.{asks-fit}

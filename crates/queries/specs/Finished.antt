@@ -1,5 +1,5 @@
 -- What is held when a query's text is laid down.
-use Rattle.std.specs.Prelude.{ℕ, ◌≤◌, ◌≡◌, List, [], length, take}
+use Rattle.std.specs.Prelude.{ℕ, ◌≡◌, List, [], length}
 use Rattle.format.specs.Reading.{book_verdict}
 use Rattle.grammar.specs.Syntax.{Formula}
 use Rattle.asking.specs.Accepted.{Accepted}
