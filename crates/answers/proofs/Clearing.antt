@@ -12,7 +12,7 @@ use lib.Dec.{ltb}
 use Rattle.format.specs.declared.Check.{Check}
 use Rattle.format.specs.Reading.{body_length, verdict, query_verdict}
 use Rattle.printouts.specs.Answer.{clear_at, cleared, unnumbered, answer_verdict}
-use Rattle.printouts.specs.ClearLaws.{clear-length, cleared-length, cleared-next, cleared-last}
+use Rattle.printouts.proofs.ClearLaws.{clear-length, cleared-length, cleared-next, cleared-last}
 
 -- Is a whole record there?
 

@@ -20,7 +20,7 @@ use Rattle.format.proofs.Beginnings.{Reads, beginning-reads}
 use Rattle.format.proofs.GoodSizes.{clauses-formed}
 use Rattle.format.proofs.Decoding.{book_of-good, book_of-one}
 use Rattle.questions.specs.Outcome.{kept}
-use Rattle.questions.specs.Kept.{kept-all}
+use Rattle.questions.proofs.Kept.{kept-all}
 use Rattle.clashing.specs.Meeting.{AllRange, MeetsAll, Met, Nodes, Kept}
 use Rattle.format.proofs.GoodSizes.{goal_iff}
 

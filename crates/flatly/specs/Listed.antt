@@ -13,9 +13,9 @@ use Rattle.flatness.specs.Profile.{compound_from, allowed_up_to, flat_check_of, 
 use Rattle.flatness.proofs.Flattened.{of-long, of-found, of_none}
 use Rattle.flatness.proofs.Refusals.{book-flat-good, query-flat-refused}
 use Rattle.outcomes.specs.Outcome.{room}
-use Rattle.outcomes.specs.Figures.{RunCode}
-use Rattle.outcomes.specs.Listed as Plain
-use Rattle.outcomes.specs.Listed.{Listed, StepCode, step-listed, run-listed}
+use Rattle.outcomes.proofs.Figures.{RunCode}
+use Rattle.outcomes.proofs.Listed as Plain
+use Rattle.outcomes.proofs.Listed.{Listed, StepCode, step-listed, run-listed}
 use Rattle.flatly.specs.Outcome.{flat_refusal, flat_run_answer, flat_step_answer}
 use Rattle.flatly.specs.Ways.{short-area, by_checks, run_taken, run-refused, step-taken, step-refused}
 

@@ -14,7 +14,7 @@ use Rattle.format.specs.ArityLaws.{book-uses}
 use Rattle.format.specs.Decode.{book_of}
 use Rattle.format.proofs.Meaning.{one_none, book-read, query-read}
 use Rattle.format.proofs.Decoding.{book_of-good}
-use Rattle.flatness.specs.CountLaws.{predicates_few, constants_few}
+use Rattle.flatness.proofs.CountLaws.{predicates_few, constants_few}
 use Rattle.flatness.specs.Marks.{numbers_of}
 use Rattle.flatness.specs.Profile.{book_flat, query_flat, counted, flat_book_of}
 use Rattle.flatness.proofs.Refusals.{book-flat-good, flat-taken, query-flat-book, query-flat-is, query-flat-count}

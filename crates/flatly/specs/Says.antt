@@ -27,8 +27,8 @@ use Rattle.outcomes.specs.declared.Answer.{Answer}
 use Rattle.outcomes.specs.Outcome.{room, closing}
 use Rattle.outcomes.specs.Refusals.{both_decide}
 use Rattle.outcomes.specs.Running.{answer-taken}
-use Rattle.outcomes.specs.Figures as Figures
-use Rattle.outcomes.specs.Figures.{RunCode, run-codes}
+use Rattle.outcomes.proofs.Figures as Figures
+use Rattle.outcomes.proofs.Figures.{RunCode, run-codes}
 use Rattle.flatly.specs.Outcome.{flat_run_answer}
 use Rattle.flatly.specs.Ways.{by_checks, run_taken}
 

@@ -26,7 +26,7 @@ use Rattle.outcomes.specs.Outcome.{refusal, room, refused, stepped, step_refused
 use Rattle.outcomes.specs.Refusals.{area-short}
 use Rattle.outcomes.specs.Running as Running
 use Rattle.outcomes.specs.Stepping as Stepping
-use Rattle.outcomes.specs.Figures.{run-narrow, refusal-low, image-short}
+use Rattle.outcomes.proofs.Figures.{run-narrow, refusal-low, image-short}
 use Rattle.outcomes.specs.Firmware.{Narrow}
 use Rattle.outcomes.specs.CallNumbers.{ApplyNarrow}
 use Rattle.flatly.specs.Outcome.{flat_refusal, flat_run_answer, flat_run_area, flat_run_answer_area, flat_step_answer, flat_step_area}

@@ -24,8 +24,8 @@ use Rattle.format.proofs.Going.{Going, going_start}
 use Rattle.format.proofs.Standing.{going-along}
 use Rattle.format.proofs.Answers.{refuses}
 use Rattle.format.proofs.Refusals.{refused_iff, refused-count, good-records}
-use Rattle.flatness.specs.Plain.{PlainRecords}
-use Rattle.flatness.specs.Faulty.{CompoundStands, FlatFaulty, too_long, of_compound, of_record}
+use Rattle.flatness.proofs.Plain.{PlainRecords}
+use Rattle.flatness.proofs.Faulty.{CompoundStands, FlatFaulty, too_long, of_compound, of_record}
 use Rattle.flatness.specs.Profile.{compound_from, allowed_up_to, unless_before, flat_check_of, flat_verdict}
 use Rattle.flatness.proofs.Scanning.{Split, all_plain, first, split, Scan, scan-start, scan-along, scanned_on, scanned_found, scanned_end}
 use Rattle.flatness.proofs.Places.{allowed-past, verdict-within}

@@ -17,7 +17,7 @@ use Rattle.format.proofs.Decoding.{book_of-good, book_of-one}
 use Rattle.flatness.specs.Profile.{compound_from, allowed_up_to, compound_at, flat_check_of, book_flat, query_flat, uncounted, flat_book_of}
 use Rattle.flatness.specs.Marks.{Image, numbers_of, fresh}
 use Rattle.flatness.specs.Counts.{constants_in, book_predicates, book_constants}
-use Rattle.flatness.specs.CountLaws.{count-one, predicates-counted, constants-counted, numbers, count-by-number}
+use Rattle.flatness.proofs.CountLaws.{count-one, predicates-counted, constants-counted, numbers, count-by-number}
 use Rattle.flatness.proofs.Marking.{count-fresh, numbers_4, book-numbers_2}
 use Rattle.flatness.proofs.Places.{verdict-within}
 use Rattle.flatness.proofs.Refusals.{book-flat-good}

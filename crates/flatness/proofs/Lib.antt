@@ -14,3 +14,8 @@ pub mod Refusals
 pub mod Marking
 pub mod Flattened
 pub mod Paths
+pub mod Cases
+pub mod CountLaws
+pub mod Faulty
+pub mod Once
+pub mod Plain

@@ -24,7 +24,7 @@ use Rattle.format.specs.ArityLaws.{meet-same, meet-other, recalled-set}
 use Rattle.format.proofs.Encoded.{Encoded, encoded}
 use Rattle.flatness.proofs.Refusals.{one-row}
 use Rattle.flatness.specs.Counts.{Apart, Count, node_constants, constants_in}
-use Rattle.flatness.specs.CountLaws.{numbers}
+use Rattle.flatness.proofs.CountLaws.{numbers}
 use Rattle.flatness.specs.Marks.{number_of, numbers_of, fresh, new_at, marked, new_ones}
 
 -- How many are new is how many are distinct.

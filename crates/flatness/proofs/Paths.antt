@@ -28,9 +28,9 @@ use Rattle.format.specs.Arities.{Use, use_of, node_uses, goal_uses, book_uses}
 use Rattle.format.specs.Decode.{book_of, goal_of}
 use Rattle.format.proofs.Decoding.{book_of-image, goal_of-image}
 use Rattle.format.proofs.Meaning.{one_none}
-use Rattle.flatness.specs.Plain.{PlainNodes, PlainGoal, PlainBook}
+use Rattle.flatness.proofs.Plain.{PlainNodes, PlainGoal, PlainBook}
 use Rattle.flatness.specs.Counts.{distinct, same_use, node_constants, constants_in}
-use Rattle.flatness.specs.CountLaws.{distinct-use, distinct-number}
+use Rattle.flatness.proofs.CountLaws.{distinct-use, distinct-number}
 use Rattle.flatness.specs.Profile.{query_flat}
 use Rattle.flatness.proofs.Refusals.{flat-good_iff, query-flat-book, query-flat-good_iff}
 

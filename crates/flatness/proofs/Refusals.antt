@@ -26,8 +26,8 @@ use Rattle.format.proofs.Failing.{fails-code}
 use Rattle.format.proofs.Meaning.{one_none, query-verdict}
 use Rattle.format.proofs.Refusals.{good_iff, good-records}
 use Rattle.format.proofs.Decoding.{records-back, book_of-one, met-is}
-use Rattle.flatness.specs.Plain.{PlainRecords, PlainNodes, PlainGoal, PlainBook}
-use Rattle.flatness.specs.Faulty.{FlatFaulty, too_long, of_compound, of_record, FlatGood}
+use Rattle.flatness.proofs.Plain.{PlainRecords, PlainNodes, PlainGoal, PlainBook}
+use Rattle.flatness.proofs.Faulty.{FlatFaulty, too_long, of_compound, of_record, FlatGood}
 use Rattle.flatness.specs.Profile.{flat_verdict, book_flat, query_flat}
 use Rattle.flatness.proofs.Answers.{Taken, flat-plain, flat-answer, flat-refuses}
 

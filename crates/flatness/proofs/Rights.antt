@@ -12,7 +12,7 @@ use Rattle.format.specs.Format.{record_kind, encode_record, encode}
 use Rattle.format.specs.Arities.{Use, uses_of, OneArity}
 use Rattle.format.specs.ArityLaws.{uses-append, one_left}
 use Rattle.format.specs.Faulty.{pair, Complete, Beginning, KindAllowed, Fails, missing, of_kind, of_cut, of_range, of_size, of_number, of_arity, WithinSizes, GoodUpTo}
-use Rattle.flatness.specs.Faulty.{CompoundStands}
+use Rattle.flatness.proofs.Faulty.{CompoundStands}
 
 -- Records that stand before a place
 

@@ -13,7 +13,7 @@ use Rattle.format.specs.Format.{record_kind, encode_record, encode}
 use Rattle.format.proofs.Encoded.{encoded}
 use Rattle.format.proofs.Taken.{pick_small}
 use Rattle.format.proofs.Failing.{record_length}
-use Rattle.flatness.specs.Plain.{NotCompound, PlainRecords}
+use Rattle.flatness.proofs.Plain.{NotCompound, PlainRecords}
 use Rattle.flatness.specs.Profile.{compound_from}
 
 module _ (s : List ℕ) (end : ℕ) where

@@ -1,2 +1,26 @@
 -- The figures of a code are small (Smalls).
 pub mod Smalls
+pub mod AnswerSays
+pub mod CallFigures
+pub mod CallSays
+pub mod CallTable
+pub mod Calls
+pub mod Demands
+pub mod Figures
+pub mod FirmwareSays
+pub mod Images
+pub mod Listed
+pub mod Once
+pub mod Path
+pub mod PickedSays
+pub mod RefusalSays
+pub mod RunSays
+pub mod StepSays
+pub mod StepTable
+pub mod StepsTo
+pub mod Stuck
+pub mod Table
+pub mod Traces
+pub mod Unknown
+pub mod Why
+pub mod Zeros

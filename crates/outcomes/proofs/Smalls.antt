@@ -14,7 +14,7 @@ use Rattle.search.specs.Furthest.{Figures, furthest, stuck_figures, figures, fig
 use Rattle.search.proofs.FurthestLaws.{Best, furthest-best}
 use Rattle.words.specs.Held.{GoalIn, BookOn}
 use Rattle.words.specs.HeldLaws.{first-length}
-use Rattle.outcomes.specs.Stuck.{arguments-fit}
+use Rattle.outcomes.proofs.Stuck.{arguments-fit}
 
 number_small : {f : Expr} {c : Clause} {k : ℕ} → Row 1 f → Failing f c k → k ≤ length f
 number_small r (other s t a b p q n) = omega arith

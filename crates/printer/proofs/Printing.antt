@@ -27,12 +27,12 @@ use Rattle.namelist.specs.NamingLaws.{some, all_named}
 use Rattle.grammar.specs.Names.{Constant, Compound, Predicate}
 use Rattle.printouts.specs.declared.Printout.{Printout}
 use Rattle.printouts.specs.Walk.{walked}
-use Rattle.printouts.specs.WalkLaws.{walked-is, goal-walked}
+use Rattle.printouts.proofs.WalkLaws.{walked-is, goal-walked}
 use Rattle.printouts.specs.Laying.{Lays, reach, lay-front, measured, over_long}
 use Rattle.printouts.specs.Outcome.{refusal, done, outcome, outcome_area, print_answer, print_area, goal_answer, goal_area}
 use Rattle.printouts.specs.Answer.{answer_verdict, found_answer, found_area}
-use Rattle.printouts.specs.AnswerLaws.{GoodFound, found-good}
-use Rattle.printouts.specs.OutcomeLaws.{is-not-good, is-no-list, is-no-name, is-no-room, is-printed, long-is, short-is}
+use Rattle.printouts.proofs.AnswerLaws.{GoodFound, found-good}
+use Rattle.printouts.proofs.OutcomeLaws.{is-not-good, is-no-list, is-no-name, is-no-room, is-printed, long-is, short-is}
 use Rattle.printer.specs.Parts.{items, records_named, Checked, Suited, PrintsImage}
 
 pub checked : (names : List ℕ) (t : Bool) → Bytes names → t ≡ is_list names → Checked names t

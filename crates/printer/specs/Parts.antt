@@ -11,7 +11,7 @@ use Rattle.printing.specs.Named.{Naming}
 use Rattle.printouts.specs.Walk.{owed_after, turn_after, piece, walked}
 use Rattle.printouts.specs.Laying.{Lays}
 use Rattle.printouts.specs.declared.Printout.{Printout}
-use Rattle.printouts.specs.OutcomeLaws.{Is}
+use Rattle.printouts.specs.Is.{Is}
 use Rattle.terms.specs.Node.{Expr}
 use Rattle.format.specs.declared.Check.{Check}
 use Rattle.namelist.specs.ListLaws.{Stands}

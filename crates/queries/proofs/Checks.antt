@@ -17,7 +17,8 @@ use Rattle.turns.specs.Once.{check-text-means}
 use Rattle.questions.specs.declared.ReadQuery.{ReadQuery}
 use Rattle.questions.specs.Given.{Gives, given_from, gives, gives-means}
 use Rattle.questions.specs.Outcome.{refusal}
-use Rattle.questions.specs.OutcomeLaws.{Is, is-not-good, is-no-list, is-bad-text}
+use Rattle.questions.proofs.OutcomeLaws.{is-not-good, is-no-list, is-bad-text}
+use Rattle.questions.specs.Is.{Is}
 use Rattle.known.specs.declared.Known.{Known}
 use Rattle.known.specs.Known.{Knows}
 use Rattle.laying.specs.declared.Kind.{Kind}

@@ -19,13 +19,14 @@ use Rattle.grammar.specs.GoodLaws.{query_good}
 use Rattle.asking.specs.Asking.{read, asking}
 use Rattle.asking.specs.Accepted.{Accepted}
 use Rattle.asking.proofs.AskingLaws.{asking_iff}
-use Rattle.readouts.specs.ClashLaws.{formulas-uses}
+use Rattle.readouts.proofs.ClashLaws.{formulas-uses}
 use Rattle.storage.specs.Storage.{Written}
 use Rattle.storage.proofs.Filling.{written_as}
 use Rattle.questions.specs.declared.ReadQuery.{ReadQuery}
 use Rattle.questions.specs.Given.{given_from}
 use Rattle.questions.specs.Outcome.{refusal, formula_at, suited, uses, filled}
-use Rattle.questions.specs.OutcomeLaws.{Is, is-two, is-no-room, is_read}
+use Rattle.questions.proofs.OutcomeLaws.{is-two, is-no-room, is_read}
+use Rattle.questions.specs.Is.{Is}
 use Rattle.known.specs.declared.Known.{Known}
 use Rattle.laying.specs.declared.Draft.{Draft}
 use Rattle.laying.specs.PageLaws.{formulas_bytes}

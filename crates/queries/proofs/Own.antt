@@ -13,7 +13,7 @@ use Rattle.namelist.specs.Table.{EachFit}
 use Rattle.namelist.specs.SpeltLaws.{asks-fit}
 use Rattle.asking.specs.Accepted.{Accepted}
 use Rattle.questions.specs.Given.{Gives, given_from, gives-means, lists-same}
-use Rattle.questions.specs.NewNames.{with_good}
+use Rattle.questions.proofs.NewNames.{with_good}
 use Rattle.known.specs.declared.Known.{Known}
 use Rattle.laying.specs.declared.Draft.{Draft}
 use Rattle.laying.specs.declared.Kind.TheVariants as Kind

@@ -4,7 +4,7 @@
 ghost use Rattle.std.specs.Prelude.{◌≡◌, true, List, ◌∷◌, ◌++◌, ℕ, ◌+◌, ◌/◌, ◌%◌, ◌<◌, ◌≤◌, length, take};
 ghost use Rattle.storage.specs.Storage.{Written};
 ghost use Rattle.questions.specs.Outcome.{refusal, outcome, query_area, list_area};
-ghost use Rattle.questions.specs.OutcomeLaws.{Is};
+ghost use Rattle.questions.specs.Is.{Is};
 ghost use Rattle.queries.specs.Finished.{Read, SomeFinished, Finished, Ready};
 
 use clashing::count_kept;

@@ -5,10 +5,5 @@
 --   Back          a goal that is printed is read as the same goal, with the same names (`goal-printed-then-read`), an answer with its variables numbered afresh
 --                 (`found-printed-then-read`)
 pub mod Given
-pub mod NewNames
 pub mod Outcome
-pub mod Place
-pub mod Kept
-pub mod OutcomeLaws
-pub mod Codes
-pub mod Back
+pub mod Is

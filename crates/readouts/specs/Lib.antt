@@ -4,12 +4,6 @@
 --   Good          a book that is read is good (`read-checked`), and its names are a name list (`read_names`)
 --   Back          what is printed is read as the same book, renumbered one to one (`printed-then-read`); read, printed and read again, it is as it was (`read-printed-read`)
 pub mod Place
-pub mod PlaceLaws
-pub mod ThereLaws
 pub mod Clash
-pub mod ClashLaws
 pub mod Outcome
-pub mod OutcomeLaws
-pub mod Good
-pub mod Back
-pub mod Cases
+pub mod Is

@@ -17,7 +17,7 @@ use Rattle.namelist.specs.Bytes.{is_list, entries_of}
 use Rattle.namelist.specs.NamingLaws.{all_named}
 use Rattle.printouts.specs.declared.Printout.{Printout}
 use Rattle.printouts.specs.Outcome.{refusal, outcome, too_long, print_answer, goal_answer}
-use Rattle.printouts.specs.OutcomeLaws.{is-not-good, is-no-list, is-no-name, is-no-room, is-printed, short-means}
+use Rattle.printouts.proofs.OutcomeLaws.{is-not-good, is-no-list, is-no-name, is-no-room, is-printed, short-means}
 use Rattle.printouts.specs.Answer.{unnumbered, answer_verdict, found_answer}
 use Rattle.textnumbers.specs.Numbers.{text_field, text_number, TextNarrow}
 

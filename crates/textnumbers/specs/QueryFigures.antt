@@ -7,7 +7,7 @@ use Rattle.format.proofs.Codes.{Coded, book-coded}
 use Rattle.areas.proofs.Places.{book-place}
 use Rattle.questions.specs.declared.ReadQuery.{ReadQuery}
 use Rattle.questions.specs.Outcome.{outcome}
-use Rattle.questions.specs.Codes.{TextCode, code_14, code_15, code_40, code_41, code_42, Listed, taken, of_book, of_list, of_text, two, full, query-listed, query-small}
+use Rattle.questions.proofs.Codes.{TextCode, code_14, code_15, code_40, code_41, code_42, Listed, taken, of_book, of_list, of_text, two, full, query-listed, query-small}
 use Rattle.textnumbers.specs.Numbers.{ReadNarrow, as_text}
 
 text-low : {code : ℕ} → TextCode code → code < 256

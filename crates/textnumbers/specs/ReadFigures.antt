@@ -7,8 +7,8 @@ use Rattle.grammar.specs.GoodLaws.{reading-good}
 use Rattle.reading.proofs.Refusal.{long_text}
 use Rattle.readouts.specs.declared.ReadText.{ReadText}
 use Rattle.readouts.specs.Outcome.{Reads, refuses, two_arities, no_room, reads, read_answer}
-use Rattle.readouts.specs.OutcomeLaws.{outcome-reads, read_once}
-use Rattle.readouts.specs.Good.{code-low, refusal-coded, refusal-low, formula-low}
+use Rattle.readouts.proofs.OutcomeLaws.{outcome-reads, read_once}
+use Rattle.readouts.proofs.Good.{code-low, refusal-coded, refusal-low, formula-low}
 use Rattle.textnumbers.specs.Numbers.{read_field, read_number, ReadNarrow}
 
 module _ (text books lists : List ℕ) where

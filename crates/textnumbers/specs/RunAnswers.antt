@@ -30,12 +30,12 @@ use Rattle.format.proofs.Numbering.{ordered}
 use Rattle.format.proofs.Meaning.{book_good}
 use Rattle.format.specs.ArityLaws.{one_left}
 use Rattle.format.proofs.Premises.{book-clauses}
-use Rattle.areas.specs.GoodGoals.{TermSymbol, Tabled, tabled, formulas-tabled, tabled-formulas, next-tabled, ordered-below, book-atomic, goal-atomics}
+use Rattle.areas.proofs.GoodGoals.{TermSymbol, Tabled, tabled, formulas-tabled, tabled-formulas, next-tabled, ordered-below, book-atomic, goal-atomics}
 use Rattle.outcomes.specs.declared.Answer.{Answer}
 use Rattle.outcomes.specs.Outcome.{closing, run_answer, run_answer_area}
-use Rattle.outcomes.specs.Demands.{taken}
+use Rattle.outcomes.proofs.Demands.{taken}
 use Rattle.printouts.specs.Answer.{answer_verdict}
-use Rattle.printouts.specs.AnswerImage.{found-image}
+use Rattle.printouts.proofs.AnswerImage.{found-image}
 
 below_right : (n : ℕ) (a b : Expr) → Below n (a ++ b) → Below n b
 below_right n [] b p = p

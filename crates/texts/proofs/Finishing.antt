@@ -44,8 +44,9 @@ use Rattle.readouts.specs.Place.{formula_place}
 use Rattle.readouts.specs.Clash.{arities}
 use Rattle.readouts.specs.Outcome as Outcome
 use Rattle.readouts.specs.Outcome.{done, filled}
-use Rattle.readouts.specs.OutcomeLaws.{Is, is-refused, is-two, is-no-room, is_read, room-is, full_is}
-use Rattle.readouts.specs.Good.{refusal-coded, code-low, refusal-low}
+use Rattle.readouts.proofs.OutcomeLaws.{is-refused, is-two, is-no-room, is_read, room-is, full_is}
+use Rattle.readouts.specs.Is.{Is}
+use Rattle.readouts.proofs.Good.{refusal-coded, code-low, refusal-low}
 use Rattle.texts.specs.Finished.{Came, Named, Finished, KeptOne, list_bytes, list_size}
 use Rattle.texts.proofs.Names.{section_heard, section_within, list-named, list-long}
 

@@ -4,7 +4,7 @@
 ghost use Rattle.std.specs.Prelude.{◌≡◌, ◌<◌, ◌≤◌, length};
 ghost use Rattle.storage.specs.Storage.{Written};
 ghost use Rattle.readouts.specs.Outcome.{refusal, read_answer, read_book, names_read};
-ghost use Rattle.readouts.specs.OutcomeLaws.{Is};
+ghost use Rattle.readouts.specs.Is.{Is};
 ghost use Rattle.reader.specs.declared.walking.Ended.TheVariants.{Read};
 ghost use Rattle.texts.specs.Finished.{Came, Named, Finished, KeptOne, list_bytes, list_size};
 

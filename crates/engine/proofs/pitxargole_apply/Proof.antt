@@ -1,5 +1,5 @@
 use mathlib.Core.Path.{ap, ◌∙◌}
-use Rattle.outcomes.specs.CallFigures.{apply-narrow}
+use Rattle.outcomes.proofs.CallFigures.{apply-narrow}
 use Rattle.outcomes.specs.CallNumbers.{apply_number}
 use borrow.Author.Rules.{rules}
 use Rattle.engine.proofs.pitxargole_apply.Statement.{statement}

@@ -1,6 +1,6 @@
 use mathlib.Core.Path.{ap, ◌∙◌}
 use native.Mathlib.Omega.{arith}
-use Rattle.outcomes.specs.CallFigures.{pick-narrow}
+use Rattle.outcomes.proofs.CallFigures.{pick-narrow}
 use Rattle.outcomes.specs.CallNumbers.{pick_number}
 use borrow.Author.Rules.{rules}
 use Rattle.engine.proofs.pitxargole_pick.Statement.{statement}

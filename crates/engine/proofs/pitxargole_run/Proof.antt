@@ -1,4 +1,4 @@
-use Rattle.outcomes.specs.Figures.{run-narrow}
+use Rattle.outcomes.proofs.Figures.{run-narrow}
 use Rattle.outcomes.specs.Firmware.{number}
 use mathlib.Core.Path.{ap, ◌∙◌}
 use native.Mathlib.Omega.{arith}

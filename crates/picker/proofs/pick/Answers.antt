@@ -1,7 +1,7 @@
 use mathlib.Core.Path.{sym as inv, ap, ◌∙◌}
 use Rattle.outcomes.specs.Outcome.{pick_refused}
 use Rattle.outcomes.specs.Refusals.{not-refused}
-use Rattle.outcomes.specs.Calls.{pick-refused, pick-taken}
+use Rattle.outcomes.proofs.Calls.{pick-refused, pick-taken}
 use Rattle.picker.proofs.pick.Goals as goal
 
 pub from_good-requires : goal.from_good-requires

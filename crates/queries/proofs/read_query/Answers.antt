@@ -1,5 +1,5 @@
 use Rattle.queries.proofs.Checks.{place-low, bad_book, bad-list, bad_text, ready}
-use Rattle.questions.specs.OutcomeLaws.{Is}
+use Rattle.questions.specs.Is.{Is}
 use native.Mathlib.Omega.{arith}
 use Rattle.queries.proofs.read_query.Goals as goal
 

@@ -1,5 +1,5 @@
 use mathlib.Core.Path.{sym as inv, ◌∙◌}
-use Rattle.outcomes.specs.Calls.{step-of-short, answers-picked, answers_unpicked}
+use Rattle.outcomes.proofs.Calls.{step-of-short, answers-picked, answers_unpicked}
 use Rattle.stepping.proofs.step.step.Goals as goal
 
 pub returns-then-area-lt16387 : goal.returns-then-area-lt16387

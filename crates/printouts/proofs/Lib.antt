@@ -1,0 +1,9 @@
+pub mod Again
+pub mod AgainGoal
+pub mod AnswerCases
+pub mod AnswerImage
+pub mod AnswerLaws
+pub mod ClearLaws
+pub mod OwnLaws
+pub mod WalkLaws
+pub mod OutcomeLaws

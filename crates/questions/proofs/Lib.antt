@@ -1,0 +1,6 @@
+pub mod Back
+pub mod Codes
+pub mod Kept
+pub mod NewNames
+pub mod Place
+pub mod OutcomeLaws

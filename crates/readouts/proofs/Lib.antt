@@ -1,0 +1,7 @@
+pub mod Back
+pub mod Cases
+pub mod ClashLaws
+pub mod Good
+pub mod PlaceLaws
+pub mod ThereLaws
+pub mod OutcomeLaws
