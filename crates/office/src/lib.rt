@@ -1,4 +1,4 @@
-// Reading and printing for C: "called from there with numbers and byte areas only".
+// Reading and printing for C: "called from there with numbers and byte areas only". The crate office_c exports these functions.
 #![tactic(auto)]
 
 ghost use Rattle.std.specs.Prelude.{◌≡◌};
@@ -13,42 +13,28 @@ use queries::read_query;
 use textnumbers::{query_number, read_number, text_number};
 use texts::read_text;
 
-#[unsafe(no_mangle)]
-pub extern "C" fn pitxargole_print_book(book: &[u8], names: &[u8], area: &mut [u8]) -> u64
+pub fn pitxargole_print_book(book: &[u8], names: &[u8], area: &mut [u8]) -> u64
     ensures said { result ≡ text_number (print_answer book.now names.now area.old) }
     ensures text { area.new ≡ print_area book.now names.now area.old }
 {
     text_number(print_book(book, names, area))
 }
 
-#[unsafe(no_mangle)]
-pub extern "C" fn pitxargole_print_goal(
-    book: &[u8],
-    goal: &[u8],
-    names: &[u8],
-    area: &mut [u8],
-) -> u64
+pub fn pitxargole_print_goal(book: &[u8], goal: &[u8], names: &[u8], area: &mut [u8]) -> u64
     ensures said { result ≡ text_number (goal_answer book.now goal.now names.now area.old) }
     ensures text { area.new ≡ goal_area book.now goal.now names.now area.old }
 {
     text_number(print_goal(book, goal, names, area))
 }
 
-#[unsafe(no_mangle)]
-pub extern "C" fn pitxargole_print_answer(
-    book: &[u8],
-    answer: &[u8],
-    names: &[u8],
-    area: &mut [u8],
-) -> u64
+pub fn pitxargole_print_answer(book: &[u8], answer: &[u8], names: &[u8], area: &mut [u8]) -> u64
     ensures said { result ≡ text_number (found_answer book.now answer.now names.now area.old) }
     ensures text { area.new ≡ found_area book.now answer.now names.now area.old }
 {
     text_number(print_answer(book, answer, names, area))
 }
 
-#[unsafe(no_mangle)]
-pub extern "C" fn pitxargole_read_text(text: &[u8], book: &mut [u8], names: &mut [u8]) -> u64
+pub fn pitxargole_read_text(text: &[u8], book: &mut [u8], names: &mut [u8]) -> u64
     ensures said { result ≡ read_number (read_answer text.now book.old names.old) }
     ensures book { book.new ≡ read_book text.now book.old names.old }
     ensures names { names.new ≡ names_read text.now book.old names.old }
@@ -56,8 +42,7 @@ pub extern "C" fn pitxargole_read_text(text: &[u8], book: &mut [u8], names: &mut
     read_number(read_text(text, book, names))
 }
 
-#[unsafe(no_mangle)]
-pub extern "C" fn pitxargole_read_query(
+pub fn pitxargole_read_query(
     text: &[u8],
     book: &[u8],
     names: &[u8],
