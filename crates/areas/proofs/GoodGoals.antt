@@ -15,7 +15,8 @@ use Rattle.search.specs.Step.{next}
 use Rattle.search.specs.Room.{fits, fits_iff}
 use Rattle.search.specs.Run.{goal_at}
 use Rattle.search.specs.Resolution.{Atomics, AtomicClauses}
-use Rattle.search.proofs.NextLaws.{next_iff, resolved-every}
+use Rattle.search.proofs.NextLaws.{resolved-every}
+use Rattle.search.proofs.NextTheorem.{next_iff}
 use Rattle.search.proofs.PathLaws.{path-holds, step-goal, path-numbered}
 use Rattle.words.specs.Flat.{flat, flat-size}
 use Rattle.format.specs.Reading.{next_unused}

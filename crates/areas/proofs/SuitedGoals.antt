@@ -9,7 +9,8 @@ use Rattle.terms.specs.Substitution.{Symbols}
 use Rattle.search.specs.Next.{Clause, Book, Goal, First, Resolved, Next}
 use Rattle.search.specs.Step.{next}
 use Rattle.search.specs.Run.{goal_at}
-use Rattle.search.proofs.NextLaws.{next_iff, resolved-every}
+use Rattle.search.proofs.NextLaws.{resolved-every}
+use Rattle.search.proofs.NextTheorem.{next_iff}
 use Rattle.search.proofs.PathLaws.{path-holds, step-goal}
 use Rattle.search.specs.Known.{symbol_for, Known}
 use Rattle.words.specs.Flat.{flat}

@@ -6,7 +6,7 @@ use Rattle.std.proofs.Math.Nat.{pow-zero, pow-le-pow_left, pow-le-pow_right}
 use Rattle.std.proofs.lemmas.List.{length-map}
 use Rattle.terms.specs.Node.{Symbol, constant, compound, predicate, arity, sym, Node, Expr}
 use Rattle.loops.proofs.Finite.{Listed}
-use Rattle.flat.proofs.Formulas.{before, words, variables, letters, of_predicate, formulas}
+use Rattle.flat.specs.Formulas.{before, words, variables, letters, of_predicate, formulas}
 
 before-many : (ls : List Node) (ws : List Expr) → length (before ls ws) ≡ length ls * length ws
 before-many [] ws = omega arith

@@ -13,7 +13,8 @@ use Rattle.search.specs.Step.{next_goal}
 use Rattle.search.specs.StepLaws.{lawful}
 use Rattle.search.specs.Known.{knows?}
 use Rattle.search.specs.Run.{Closed, close, verdict, run, state_at, Roomy, Closes, code_20, code_21, code_22, code_23, code_24, code_26, Runs}
-use Rattle.search.proofs.RunLaws.{closing, run_iff, run-runs, runs-step}
+use Rattle.search.proofs.RunLaws.{closing, runs-step}
+use Rattle.search.proofs.RunTheorem.{run_iff, run-runs}
 use Rattle.flat.specs.Flat.{FlatGoal, IsFlatBook}
 use Rattle.flat.proofs.Theorem.{flat-closes}
 

@@ -12,6 +12,7 @@ use Rattle.terms.specs.Number.{place, within, grow, number, canon}
 use Rattle.terms.proofs.NumberLaws.{within-last}
 use Rattle.loops.proofs.Finite.{Listed}
 use Rattle.flat.specs.Flat.{ConstantOf, Flat, flat}
+use Rattle.flat.specs.Formulas.{before, words, variables, letters, of_predicate, formulas}
 
 -- Lists of lists.
 
@@ -29,43 +30,14 @@ listed-map h x (y ∷ a) (inl e) = inl (ap h e)
 listed-map h x (y ∷ a) (inr i) = inr (listed-map h x a i)
 listed-map {F = F} {G = G} h x [] x'' = elim x'' [ ]
 
--- each letter before each word
-abbrev pub before : List Node → List Expr → List Expr
-before [] words = []
-before (x ∷ letters) words = map (λ w. x ∷ w) words ++ before letters words
-
 listed-before : (x : Node) (w : Expr) (letters : List Node) (words : List Expr) → Listed x letters → Listed w words → Listed (x ∷ w) (before letters words)
 listed-before x w (y ∷ letters) words (inl e) j = listed-left (x ∷ w) (map (λ w. y ∷ w) words) (before letters words) (subst (λ z. Listed (z ∷ w) (map (λ w. y ∷ w) words)) (inv e) (listed-map (λ w. y ∷ w) w words j))
 listed-before x w (y ∷ letters) words (inr i) j = listed-right (x ∷ w) (map (λ w. y ∷ w) words) (before letters words) (listed-before x w letters words i j)
 listed-before x w [] words x3 j = elim x3 [ ]
 
--- the words of n letters
-abbrev pub words : List Node → ℕ → List Expr
-words letters zero = [] ∷ []
-words letters (suc n) = before letters (words letters n)
-
--- the first n variables
-abbrev pub variables : ℕ → List Node
-variables zero = []
-variables (suc n) = var n ∷ variables n
-
 listed-variable : (n v : ℕ) → v < n → Listed (var v) (variables n)
 listed-variable zero v l = absurd (omega arith)
 listed-variable (suc n) v l = elim (ℕ_discrete v n) [ yes e ↦ inl (ap var e) | no m ↦ inr (listed-variable n v (omega (arith, l, m))) ]
-
--- what arguments are made of: so many variables, and the constants
-abbrev pub letters : ℕ → List ℕ → List Node
-letters n cs = variables n ++ map (λ c. sym (constant c)) cs
-
--- the formulas of one predicate, and of all
-abbrev pub of_predicate : List ℕ → Symbol → List Expr
-of_predicate cs (constant c) = []
-of_predicate cs (compound f n) = []
-of_predicate cs (predicate p a) = map (λ e. sym (predicate p a) ∷ e) (words (letters a cs) a)
-
-abbrev pub formulas : List Symbol → List ℕ → List Expr
-formulas [] cs = []
-formulas (s ∷ ps) cs = of_predicate cs s ++ formulas ps cs
 
 -- Arguments of a flat formula.
 

@@ -9,7 +9,8 @@ use Rattle.loops.proofs.Finite.{Listed, Stops, ends_or_circles}
 use Rattle.loops.specs.Cyclic.{PrimitiveCyclic}
 use Rattle.loops.specs.Detect.{State, Judged, judged}
 use Rattle.loops.proofs.Lemmas.{ClosesPath, member_or_closed}
-use Rattle.loops.proofs.Theorem.{Passes, theorem_1}
+use Rattle.loops.proofs.Theorem.{Passes}
+use Rattle.loops.proofs.Equivalence.{theorem_1}
 use Rattle.search.specs.Next.{Book, Goal}
 use Rattle.search.specs.Step.{next_goal}
 use Rattle.search.specs.StepLaws.{lawful}
@@ -18,7 +19,8 @@ use Rattle.search.proofs.RunLaws.{state-sound}
 use Rattle.search.proofs.PathLaws.{path-numbered}
 use Rattle.flat.specs.Flat.{FlatGoal, IsFlatBook}
 use Rattle.flat.specs.FlatLaws.{path-flat}
-use Rattle.flat.proofs.Formulas.{formulas, listed-formula}
+use Rattle.flat.proofs.Formulas.{listed-formula}
+use Rattle.flat.specs.Formulas.{formulas}
 
 module _ (ps : List Symbol) (cs : List ℕ) (P : Book) (book : IsFlatBook ps cs P) (q : Goal) (query : FlatGoal ps cs q) (numbered : Numbered q) where
   -- whatever stands leftmost is of the list

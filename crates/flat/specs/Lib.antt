@@ -3,3 +3,4 @@
 pub mod Flat
 pub mod FlatLaws
 pub mod Doubling
+pub mod Formulas

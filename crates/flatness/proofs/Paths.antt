@@ -17,7 +17,7 @@ use Rattle.words.specs.Flat.{flat}
 use Rattle.flat.specs.Flat.{ConstantOf, Flat, FlatGoal, IsFlatBook}
 use Rattle.flat.specs.FlatLaws.{path-flat}
 use Rattle.flat.proofs.Formulas.{listed-left, listed-right, listed-map}
-use Rattle.flat.proofs.Formulas.{formulas}
+use Rattle.flat.specs.Formulas.{formulas}
 use Rattle.flat.proofs.Bound.{formulas-few}
 use Rattle.flat.proofs.Theorem.{leftmost}
 use Rattle.flat.proofs.Closing as Closing

@@ -29,7 +29,7 @@ or_false true b e = absurd (false≢true (sym e))
 or_false false b e = (refl, e)
 
 -- a move counts one step
-move_step : {F : Type 0} (b : Bool) (s : State F) (h : List F) → (move b s h).step ≡ suc s.step
+pub move_step : {F : Type 0} (b : Bool) (s : State F) (h : List F) → (move b s h).step ≡ suc s.step
 move_step true s h = refl
 move_step false s h = refl
 
@@ -58,7 +58,7 @@ module _ {F : Type 0} (next : List F → Option (List F)) where
     pub held : Held q s.step s.least s.from s.saved
 
   -- of the first state
-  sound-start : (q : List F) → Sound q (start q)
+  pub sound-start : (q : List F) → Sound q (start q)
   sound-start q = record { here = path-zero next q; held = refl }
 
   module _ (laws : Successor next) (q : List F) (s : State F) (i : Sound q s) where
@@ -87,7 +87,7 @@ module _ {F : Type 0} (next : List F → Option (List F)) where
         ]
 
     -- what is held after a save
-    saved-next : saves s ≡ true → (h : List F) → next s.goal ≡ some h → Held q (suc s.step) (length s.goal) s.step (leftmost s.goal)
+    pub saved-next : saves s ≡ true → (h : List F) → next s.goal ≡ some h → Held q (suc s.step) (length s.goal) s.step (leftmost s.goal)
     saved-next e h n = go s.goal refl
       where
         go : (g : List F) → s.goal ≡ g → Held q (suc s.step) (length s.goal) s.step (leftmost g)
@@ -103,7 +103,7 @@ module _ {F : Type 0} (next : List F → Option (List F)) where
         }
 
     -- Lemma 11: what is held on without a save, and where no loop is detected
-    kept_next : saves s ≡ false → ¬ Detected s → Held q (suc s.step) s.least s.from s.saved
+    pub kept_next : saves s ≡ false → ¬ Detected s → Held q (suc s.step) s.least s.from s.saved
     kept_next e d = go s.saved refl i.held
       where
         off : (scheduled s.step ≡ false) × (ltb (length s.goal) s.least ≡ false)
@@ -127,23 +127,3 @@ module _ {F : Type 0} (next : List F → Option (List F)) where
               ];
           away = λ j k b w p. elim (dec_lt j s.step) [ yes x ↦ c.away j k b x p | no x ↦ d (a, k, f, sym (now j (a ∷ k) w x p), omega (arith, long)) ];
         }
-
-    -- of the next state
-    sound-next : ¬ Detected s → (h : List F) → next s.goal ≡ some h → Sound q (move (saves s) s h)
-    sound-next d h n = go (saves s) refl
-      where
-        go : (b : Bool) → saves s ≡ b → Sound q (move b s h)
-        go true e = record { here = path-on next s.step q s.goal i.here ∙ n; held = saved-next e h n }
-        go false e = record { here = path-on next s.step q s.goal i.here ∙ n; held = kept_next e d }
-
-module _ {F : Type 0} (dec : Discrete F) (next : List F → Option (List F)) (laws : Successor next) where
-  -- Lemma 10: of every state, whose number is its step
-  pub detect-sound : (t : ℕ) (q : List F) (s : State F) → detect dec next t q ≡ some s → (s.step ≡ t) × Sound next q s
-  detect-sound zero q s e =
-      let o : s ≡ start q = cc (detect-zero dec next q) in
-      rw o (refl, sound-start next q)
-  detect-sound (suc t) q s e =
-      let b = detect-back dec next t q s e in
-      let d = detect-sound t q b.0 b.1 in
-      let j = subst (Judged dec next b.0) b.2 (judged dec next b.0) in
-      rw j.4 (move_step (saves b.0) b.0 j.2 ∙ ap suc d.0, sound-next next laws q b.0 d.1 j.1 j.2 j.3)

@@ -7,7 +7,8 @@ use Rattle.std.proofs.Math.Option.{Option, none, some, none-ne-some}
 use Rattle.loops.specs.Path.{Successor, path, Goes, path-zero, path-on, path-sum, path-cut, carried, alone}
 use Rattle.loops.specs.Schedule.{scheduled}
 use Rattle.loops.specs.Detect.{State, start, Verdict, solved, loop, stuck, go_on, leftmost, saves, move, Detected, judge, detect, Judged, judged, detect-zero, detect-on, detect-back}
-use Rattle.loops.proofs.Held.{or_false, detect-sound}
+use Rattle.loops.proofs.Held.{or_false}
+use Rattle.loops.proofs.EachState.{detect-sound}
 
 module _ {F : Type 0} (next : List F → Option (List F)) (laws : Successor next) where
   -- a goal with a successor is not empty

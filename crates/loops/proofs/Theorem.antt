@@ -10,7 +10,8 @@ use Rattle.loops.specs.Cyclic.{CyclicFormula, PrimitiveCyclic, Cyclic, primitive
 use Rattle.loops.specs.Schedule.{scheduled}
 use Rattle.loops.proofs.ScheduleLaws.{window}
 use Rattle.loops.specs.Detect.{State, Verdict, solved, loop, stuck, go_on, start, Detected, judge, detect, Reported, Judged, judged, detect-zero, detect-on, detect-back}
-use Rattle.loops.proofs.Held.{Kept, Held, Sound, Quiet, detect-sound}
+use Rattle.loops.proofs.Held.{Kept, Held, Sound, Quiet}
+use Rattle.loops.proofs.EachState.{detect-sound}
 
 module _ {F : Type 0} (next : List F → Option (List F)) (laws : Successor next) (q : List F) (t l m : ℕ) (a : F) (k : Kept next q t l m a) where
   -- Lemma 11: the path from the save
@@ -207,23 +208,3 @@ module _ {F : Type 0} (dec : Discrete F) (next : List F → Option (List F)) (la
             let n = caught u r t c.0 d.0 w.on (λ k a b. w.quiet k a (omega (arith, w.late))) refl p c.2 d.1 in
             (t, n.0, omega (arith, w.soon, y.4.0), n.1)
       ]
-
-  -- (A) of Theorem 1: a loop is reported
-  abbrev pub Reports : Type 0
-  Reports = (t : ℕ) × (n : ℕ) × Reported dec next q t n
-
-  -- from (A) to (C): Lemma 12
-  pub reports→primitive : Reports → Passes next q (PrimitiveCyclic next)
-  reports→primitive x = let k = reported-loop x.0 x.1 x.2 in (x.0, k.formula ∷ k.rest, x.1, k.here, (k.formula, k.rest, refl, k.cyclic))
-
-  -- from (C) to (B)
-  pub primitive→cyclic : Passes next q (PrimitiveCyclic next) → Passes next q (Cyclic next)
-  primitive→cyclic x = (x.0, x.1, x.2, x.3, primitive-cyclic next x.1 x.2 x.4)
-
-  -- from (B) to (A)
-  pub cyclic→reports : Passes next q (Cyclic next) → Reports
-  cyclic→reports x = let c = complete x.0 x.2 x.1 x.3 x.4 in (c.0, c.1, c.3)
-
-  -- Theorem 1, and Corollary 2: a loop is reported, the path has a cyclic goal, and the path has a primitive cyclic goal, are the same
-  pub theorem_1 : (Reports ↔ Passes next q (Cyclic next)) × (Passes next q (Cyclic next) ↔ Passes next q (PrimitiveCyclic next))
-  theorem_1 = ((λ x. primitive→cyclic (reports→primitive x), cyclic→reports), (λ x. reports→primitive (cyclic→reports x), primitive→cyclic))

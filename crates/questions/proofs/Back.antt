@@ -23,7 +23,8 @@ use Rattle.printouts.specs.Answer.{unnumbered, answer_verdict, found_answer}
 use Rattle.printouts.proofs.AnswerLaws.{found-good, found-suits}
 use Rattle.printouts.proofs.AgainGoal.{Tells, goal-out, goal-good, goal-checked, goal_text_of, goal-is-read, found-checked, found_text_of, found-is-read}
 use Rattle.questions.specs.declared.ReadQuery.{ReadQuery}
-use Rattle.questions.specs.Given.{Gives, listed}
+use Rattle.questions.specs.Given.{Gives}
+use Rattle.questions.proofs.GivenLaws.{listed}
 use Rattle.questions.specs.Outcome.{refusal, filled}
 use Rattle.questions.proofs.OutcomeLaws.{no_room, reads, reads-is}
 use Rattle.questions.specs.Is.{Is}

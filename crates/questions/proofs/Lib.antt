@@ -4,3 +4,4 @@ pub mod Kept
 pub mod NewNames
 pub mod Place
 pub mod OutcomeLaws
+pub mod GivenLaws

@@ -23,7 +23,8 @@ use Rattle.asking.proofs.Refusal.{Refusal}
 use Rattle.asking.specs.Accepted.{Accepted}
 use Rattle.asking.proofs.AskingLaws.{refusal-code, asking_iff, refusal_iff}
 use Rattle.questions.specs.declared.ReadQuery.{ReadQuery}
-use Rattle.questions.specs.Given.{Gives, given_from, gives, gives-means, gives-is, given_is}
+use Rattle.questions.specs.Given.{Gives, given_from, gives, gives-means}
+use Rattle.questions.proofs.GivenLaws.{gives-is, given_is}
 use Rattle.questions.proofs.NewNames.{with_good, names-begin}
 use Rattle.questions.specs.Outcome.{refusal, formula_at, suited, room, answered, filled, outcome, query_area, list_area}
 use Rattle.readouts.proofs.ClashLaws.{formulas-uses}

@@ -112,7 +112,7 @@ names-other k j n (w ∷ l) e = rw e (names-other k j (suc n) l e)
 three : (k : Sort) (a b c : List Entry) → names_of k (a ++ (b ++ c)) ≡ names_of k a ++ (names_of k b ++ names_of k c)
 three k a b c = names-append k a (b ++ c) ∙ ap (λ (z : List (List ℕ)). names_of k a ++ z) (names-append k b c)
 
-names_table : (g : Given) (k : Sort) → names_of k (table_entries g) ≡ g k
+pub names_table : (g : Given) (k : Sort) → names_of k (table_entries g) ≡ g k
 names_table g Constant =
     three Constant (entries_on Constant 0 (g Constant)) (entries_on Compound 0 (g Compound)) (entries_on Predicate 0 (g Predicate))
     ∙ ap₂ ◌++◌ (names-own Constant 0 (g Constant)) (ap₂ ◌++◌ (names-other Constant Compound 0 (g Compound) refl) (names-other Constant Predicate 0 (g Predicate) refl))
@@ -126,19 +126,3 @@ names_table g Predicate =
 
 pub lists-same : (g h : Given) → ((k : Sort) → g k ≡ h k) → list_of g ≡ list_of h
 lists-same g h e = ap₂ ◌++◌ (ap (entries Constant 0) (e Constant)) (ap₂ ◌++◌ (ap (entries Compound 0) (e Compound)) (ap (entries Predicate 0) (e Predicate)))
-
-module _ (s : List ℕ) (g : Given) (h : Gives s g) where
-  pub listed : IsList s (table_entries g)
-  listed = rw h.is (table-list 61439 g h.good (omega arith))
-
-  pub given_is : (k : Sort) → given_from s k ≡ g k
-  given_is k = ap (names_of k) (entries-are s (table_entries g) listed) ∙ names_table g k
-
-  few-is : (k : Sort) → leb (length (given_from s k)) 61439 ≡ true
-  few-is k = le-leb (length (given_from s k)) 61439 (rw (given_is k) (h.good.few k))
-
-  pub gives-is : gives s ≡ true
-  unfolding gives
-  gives-is =
-      let q : list_of (given_from s) ≡ s = lists-same (given_from s) g given_is ∙ inv h.is in
-      rw (list_is s (table_entries g) listed, ap (λ (z : List ℕ). same_name z s) q ∙ same_refl s, few-is Constant, few-is Compound, few-is Predicate)

@@ -10,7 +10,7 @@ use Rattle.terms.specs.Node.{Expr}
 use Rattle.search.specs.Next.{Book, Goal, Clauses, First, NoneMeets, Resolved, no_clause, clause_at}
 use Rattle.search.specs.Step.{stuck, to, next}
 use Rattle.search.specs.Answer.{small}
-use Rattle.search.proofs.NextLaws.{next_iff, stuck_iff}
+use Rattle.search.proofs.NextTheorem.{next_iff, stuck_iff}
 use Rattle.search.proofs.SingleLaws.{clauses-drop}
 use Rattle.words.specs.Columns.{every, every-length, every-at}
 use Rattle.words.specs.Held.{GoalIn, Placed, starts, heads, bodies, BookOn}

@@ -9,7 +9,8 @@ use Rattle.search.specs.Step.{next_goal}
 use Rattle.search.specs.Room.{fits}
 use Rattle.search.proofs.TestLaws.{move-goal}
 use Rattle.search.specs.Run.{Closed, run, goal_at, Closes, code_20, code_21, code_22, code_23, code_24, code_26, Runs}
-use Rattle.search.proofs.RunLaws.{state-sound, run-runs, run_iff}
+use Rattle.search.proofs.RunLaws.{state-sound}
+use Rattle.search.proofs.RunTheorem.{run-runs, run_iff}
 use Rattle.search.specs.Answer.{small, next_answer, answer_at, Answered, closed, answered, Slim, Ends, as_before, code_27, Answers}
 use Rattle.search.proofs.AnswerLaws.{answer-next, answered_iff}
 

@@ -9,7 +9,8 @@ use Rattle.terms.specs.Cases.{cases}
 use Rattle.loops.specs.Detect.{State, go_on, saves, move}
 use Rattle.search.specs.Next.{Book, Goal, Clauses, First, Next}
 use Rattle.search.specs.Step.{goal_in}
-use Rattle.search.proofs.NextLaws.{first_one, next_iff}
+use Rattle.search.proofs.NextLaws.{first_one}
+use Rattle.search.proofs.NextTheorem.{next_iff}
 use Rattle.search.specs.Room.{nodes, fits}
 use Rattle.search.specs.Run.{verdict, goal_at, state_at, Roomy}
 use Rattle.search.proofs.RunLaws.{state-sound}

@@ -13,7 +13,7 @@ use Rattle.loops.specs.Path.{path-zero, path-on, path-back}
 use Rattle.search.specs.Next.{Clause, Book, Goal, Clauses, First, resolvent, Resolved}
 use Rattle.search.specs.Step.{next, next_goal, goal_in}
 use Rattle.search.specs.StepLaws.{resolvent-more}
-use Rattle.search.proofs.NextLaws.{next_iff}
+use Rattle.search.proofs.NextTheorem.{next_iff}
 use Rattle.search.specs.Run.{goal_at}
 use Rattle.search.proofs.PathLaws.{step-goal, path-formulas}
 use Rattle.search.specs.Answer.{Carried, Carries, none_yet, one_more, next_answer, answer_at}

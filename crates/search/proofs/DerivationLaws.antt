@@ -18,7 +18,7 @@ use Rattle.terms.proofs.VariantLaws.{variants_iff, variants_flip, number-all_ide
 use Rattle.loops.specs.Path.{path-zero, path-on, path-back}
 use Rattle.search.specs.Next.{Clause, Book, Goal, Next}
 use Rattle.search.specs.Step.{to, next, next_goal, goal_in}
-use Rattle.search.proofs.NextLaws.{next_iff}
+use Rattle.search.proofs.NextTheorem.{next_iff}
 use Rattle.search.proofs.NameLaws.{next-variants}
 use Rattle.search.specs.Run.{goal_at}
 use Rattle.search.proofs.PathLaws.{step-goal}

@@ -20,3 +20,5 @@ pub mod ToldLaws
 pub mod CycleLaws
 pub mod FailLaws
 pub mod FurthestLaws
+pub mod NextTheorem
+pub mod RunTheorem

@@ -14,7 +14,8 @@ use Rattle.terms.specs.RenameLaws.{in-any-rename, rename-row, rename-rename}
 use Rattle.terms.proofs.VariantLaws.{variants_flip, variants_injective}
 use Rattle.search.specs.Next.{Clause, Book, Goal, Clauses, Meets, First, NoneMeets, resolvent, Resolved, Next}
 use Rattle.search.specs.Step.{even, odd, Choice, choice, resolve, move, next}
-use Rattle.search.proofs.NextLaws.{even_odd, meets-by, carried, next_iff, stuck_iff}
+use Rattle.search.proofs.NextLaws.{even_odd, meets-by, carried}
+use Rattle.search.proofs.NextTheorem.{next_iff, stuck_iff}
 
 -- f and g, and the same renamed
 module _ (ρ : ℕ → ℕ) (f : Expr) (g : Goal) (inj : InjectiveOn (λ v. InAny v (f ∷ g)) ρ) where

@@ -110,7 +110,7 @@ first-none (e ∷ P) f zero c n p = n.0 (subst (Meets f) (inv p.0) p.1)
 first-none (e ∷ P) f (suc k) c n p = first-none P f k c n.1 p.1
 first-none [] f k c n p = elim p [ ]
 
-first-formulas : (P : Book) (f : Expr) (k : ℕ) (c : Clause) → Clauses P → First f P k c → Formulas (c.head ∷ c.body)
+pub first-formulas : (P : Book) (f : Expr) (k : ℕ) (c : Clause) → Clauses P → First f P k c → Formulas (c.head ∷ c.body)
 first-formulas (d ∷ P) f zero c good p = subst (λ e. Formulas (e.head ∷ e.body)) p.0 good.0
 first-formulas (d ∷ P) f (suc k) c good p = first-formulas P f k c good.1 p.1
 first-formulas [] f k c good p = elim p [ ]
@@ -144,7 +144,7 @@ module _ (f : Expr) (f-row : Row 1 f) where
         unify-complete (rename-row even f-row) (rename-row odd c-row) q _
         (carried even odd m.goal_names m.clause_names f c.head [] [] (even_odd (f ∷ []) (c.head ∷ [])) m.unifier m.unifies).1
 
-  choice-found : (P : Book) → Clauses P → Found f P (choice P f)
+  pub choice-found : (P : Book) → Clauses P → Found f P (choice P f)
   choice-found [] good = tt
   choice-found (c ∷ P) good = go (meet f c) refl (choice-found P good.1)
     where
@@ -159,20 +159,20 @@ module _ (P : Book) (f : Expr) (g : Goal) where
   resolved-move x m =
       record { goal_names = even; clause_names = odd; apart = even_odd (f ∷ g) (x.clause.head ∷ x.clause.body); unifier = x.unifier; general = m.1; result = refl }
 
-  move-is-next : (o : Option Choice) → Found f P o → (k : ℕ) (h : Goal) → move o g ≡ to k h → Next P (f ∷ g) k h
+  pub move-is-next : (o : Option Choice) → Found f P o → (k : ℕ) (h : Goal) → move o g ≡ to k h → Next P (f ∷ g) k h
   move-is-next none n k h p = let z : ◌≡◌ {A = ℕ} 0 1 = cc in absurd (omega arith)
   move-is-next (some x) m k h p =
       let same-k : x.number ≡ k = cc in
       let same-h : resolve x g ≡ h = cc in
       (x.clause, subst (λ n. First f P n x.clause) same-k m.0, subst (Resolved f g x.clause) same-h (resolved-move x m))
 
-  next-is-move : (o : Option Choice) → Found f P o → (k : ℕ) (h : Goal) → Next P (f ∷ g) k h → move o g ≡ to k h
+  pub next-is-move : (o : Option Choice) → Found f P o → (k : ℕ) (h : Goal) → Next P (f ∷ g) k h → move o g ≡ to k h
   next-is-move none n k h t = absurd (first-none P f k t.0 n t.1)
   next-is-move (some x) m k h t =
       let r = first_one P f x.number k x.clause t.0 m.0 t.1 in
       ap₂ to r.0 (resolved-one f g x.clause (resolve x g) h (resolved-move x m) (subst (λ c. Resolved f g c h) (inv r.1) t.2))
 
-  stuck-is-none : (o : Option Choice) → Found f P o → (move o g ≡ stuck) ↔ NoneMeets f P
+  pub stuck-is-none : (o : Option Choice) → Found f P o → (move o g ≡ stuck) ↔ NoneMeets f P
   stuck-is-none none n = ((λ p. n), (λ n. refl))
   stuck-is-none (some x) m = ((λ p. let z : ◌≡◌ {A = ℕ} 0 1 = cc in absurd (omega arith)), (λ n. absurd (first-none P f x.number x.clause n m.0)))
 
@@ -200,28 +200,6 @@ pub resolved-atoms : (f : Expr) (g : Goal) (c : Clause) (h : Goal) → Atoms c.b
 resolved-atoms f g c h body goal t = resolved-every Atom atom-rename f g c h body goal t (atom-apply t.unifier)
 
 -- no next goal, of a goal that is not empty
-move-stuck : (o : Option Choice) (g : Goal) → goal_in (move o g) ≡ none → move o g ≡ stuck
+pub move-stuck : (o : Option Choice) (g : Goal) → goal_in (move o g) ≡ none → move o g ≡ stuck
 move-stuck none g e = refl
 move-stuck (some x) g e = cc
-
--- The theorems, for a book and a goal of formulas.
-module _ (P : Book) (good : Clauses P) where
-  -- `next` computes the next goal, and there is no other
-  pub next_iff : (g : Goal) → Formulas g → (k : ℕ) (h : Goal) → Next P g k h ↔ (next P g ≡ to k h)
-  next_iff [] goal k h = ((λ n. absurd n), (λ p. let z : ◌≡◌ {A = ℕ} 0 1 = cc in absurd (omega arith)))
-  next_iff (f ∷ g) goal k h = let m = choice-found f goal.0 P good in (next-is-move P f g (choice P f) m k h, move-is-next P f g (choice P f) m k h)
-
-  -- it is stuck just when no head unifies with the first formula
-  pub stuck_iff : (f : Expr) (g : Goal) → Row 1 f → (next P (f ∷ g) ≡ stuck) ↔ NoneMeets f P
-  stuck_iff f g r = stuck-is-none P f g (choice P f) (choice-found f r P good)
-
-  -- so where there is no next goal no head does
-  pub no-next : (f : Expr) (g : Goal) → Row 1 f → next_goal P (f ∷ g) ≡ none → NoneMeets f P
-  no-next f g r e = (stuck_iff f g r).0 (move-stuck (choice P f) g e)
-
-  -- the next goal is of formulas
-  pub next-formulas : (g : Goal) → Formulas g → (k : ℕ) (h : Goal) → next P g ≡ to k h → Formulas h
-  next-formulas [] goal k h p = let z : ◌≡◌ {A = ℕ} 0 1 = cc in absurd (omega arith)
-  next-formulas (f ∷ g) goal k h p =
-      let t = (next_iff (f ∷ g) goal k h).1 p in
-      resolved-formulas f g t.0 h (first-formulas P f k t.0 good t.1).1 goal.1 t.2

@@ -12,7 +12,7 @@ use Rattle.loops.specs.Path.{path-zero, path-on, path-back}
 use Rattle.search.specs.Next.{Book, Goal, Clauses, Next}
 use Rattle.search.specs.Step.{Step, solved, stuck, to, next, goal_in, next_goal}
 use Rattle.search.specs.StepLaws.{next-numbered}
-use Rattle.search.proofs.NextLaws.{next_iff, next-formulas}
+use Rattle.search.proofs.NextTheorem.{next_iff, next-formulas}
 use Rattle.search.specs.Run.{goal_at}
 
 -- what holds of the query, and of each next goal, holds of every goal of the path

@@ -15,7 +15,8 @@ use Rattle.search.specs.Known.{Known, known?, stuck_code, stuck-known, stuck-unk
 use Rattle.search.specs.Single.{Single, not_taken, if_fits, single, step}
 use Rattle.search.specs.Pick.{Pick, no_pick, picked, pick, Picks, chosen_25, applied, apply_by, Applies, absent_32, apart_33, full_24, taken_25, then, pick_and_apply}
 use Rattle.search.specs.Pick as Pick
-use Rattle.search.proofs.NextLaws.{even_odd, meets-by, carried, first_one, first-none, next_iff, stuck_iff}
+use Rattle.search.proofs.NextLaws.{even_odd, meets-by, carried, first_one, first-none}
+use Rattle.search.proofs.NextTheorem.{next_iff, stuck_iff}
 
 clause-good : (P : Book) → Clauses P → (k : ℕ) → k < length P → Formulas ((clause_at P k).head ∷ (clause_at P k).body)
 clause-good [] good k l = absurd (omega arith)

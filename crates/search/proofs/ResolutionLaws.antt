@@ -18,7 +18,8 @@ use Rattle.terms.proofs.RenamingLaws.{permutation-renaming, renaming-permutation
 use Rattle.search.specs.Next.{Clause, Book, Goal, Clauses, Meets, First, Resolved, Next}
 use Rattle.search.specs.Step.{next}
 use Rattle.search.specs.Run.{goal_at}
-use Rattle.search.proofs.NextLaws.{carried, resolved-one, resolved-every, next_iff}
+use Rattle.search.proofs.NextLaws.{carried, resolved-one, resolved-every}
+use Rattle.search.proofs.NextTheorem.{next_iff}
 use Rattle.search.proofs.PathLaws.{path-holds, step-goal, path-next}
 use Rattle.search.specs.Resolution.{Atomics, AtomicClauses, Standard, UnifiesWith, FirstUnifying, Resolvent, Derived}
 

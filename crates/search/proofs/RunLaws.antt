@@ -7,7 +7,7 @@ use Rattle.std.proofs.Math.Option.{some, some-injective}
 use Rattle.terms.specs.Node.{Expr, same_expr}
 use Rattle.terms.specs.Cases.{cases}
 use Rattle.loops.specs.Detect.{State, start, Verdict, solved, loop, stuck, go_on, detect-zero, detect-on}
-use Rattle.loops.proofs.Held.{detect-sound}
+use Rattle.loops.proofs.EachState.{detect-sound}
 use Rattle.loops.proofs.Theorem.{went_on}
 use Rattle.search.specs.Next.{Book, Goal}
 use Rattle.search.specs.Step.{next_goal}
@@ -76,14 +76,10 @@ module _ (P : Book) (budget : ℕ) (q : Goal) where
       (λ h. rw h (then e' (roomier P q t s'.goal (state-sound P q (suc t) s' e').1 h room)))
       (λ h. rw h (closing t s e (omega arith) room (code_24 f (omega (arith, state-sound P q t s e)) h)))
 
-  run-from-runs : (left t : ℕ) (s : State Expr) → t + left ≡ budget → state_at P q t ≡ some s → Roomy P q t → Runs P budget q (run_from P left s)
+  pub run-from-runs : (left t : ℕ) (s : State Expr) → t + left ≡ budget → state_at P q t ≡ some s → Roomy P q t → Runs P budget q (run_from P left s)
   unfolding run_from
   run-from-runs zero t s l e room = settled t s e (omega arith) room _ (λ s' f. closing t s e (omega arith) room (code_23 f (omega (arith, state-sound P q t s e))))
   run-from-runs (suc left) t s l e room = settled t s e (omega arith) room _ (λ s' f. room-tested t s e (omega arith) room (run_from P left s') s' f (run-from-runs left (suc t) s' (omega arith)))
-
-  pub run-runs : Runs P budget q (run P budget q)
-  unfolding run
-  run-runs = run-from-runs budget 0 (start q) (omega arith) (detect-zero same_expr (next_goal P) q) (λ j g a b. absurd (omega arith))
 
   -- There is no other.
 
@@ -131,10 +127,6 @@ module _ (P : Book) (budget : ℕ) (q : Goal) where
 
       by : (r.code ≡ r'.code) × (r.span ≡ r'.span)
       by = closes-one (subst (λ s. Closes P budget s r.code r.span) same x.closes) y.closes
-
-  -- the run is what document 01 says, and nothing else
-  pub run_iff : (r : Closed) → (run P budget q ≡ r) ↔ Runs P budget q r
-  run_iff r = (λ e. subst (Runs P budget q) e run-runs, λ x. runs-one (run P budget q) r run-runs x)
 
   -- steps is the step of the closing state
   pub runs-step : (r : Closed) (x : Runs P budget q r) → x.state.step ≡ r.steps

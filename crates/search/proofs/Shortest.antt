@@ -7,7 +7,7 @@ use Rattle.terms.specs.Node.{Expr}
 use Rattle.terms.specs.Number.{Numbered}
 use Rattle.search.specs.Next.{Book, Goal}
 use Rattle.search.specs.Run.{Closed, run, goal_at}
-use Rattle.search.proofs.RunLaws.{run-runs}
+use Rattle.search.proofs.RunTheorem.{run-runs}
 use Rattle.search.specs.Cycle.{CyclicFormula, PrimitiveCyclic}
 use Rattle.search.proofs.Theorem.{loop-means}
 

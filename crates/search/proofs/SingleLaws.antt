@@ -10,7 +10,7 @@ use Rattle.search.specs.Step.{Choice, choice, resolve, Step, solved, stuck, to, 
 use Rattle.search.specs.Room.{fits}
 use Rattle.search.specs.Known.{known?, stuck_code, stuck-known, stuck-unknown}
 use Rattle.search.specs.Single.{Single, not_taken, if_fits, single, step_from, Steps, solved_20, stuck_22, unknown_26, full_24, taken_25}
-use Rattle.search.proofs.NextLaws.{next_iff, stuck_iff}
+use Rattle.search.proofs.NextTheorem.{next_iff, stuck_iff}
 
 pub clauses-drop : (j : ℕ) (P : Book) → Clauses P → Clauses (drop j P)
 clauses-drop zero P good = good

@@ -10,7 +10,8 @@ use Rattle.terms.specs.Cases.{cases}
 use Rattle.loops.specs.Schedule.{scheduled}
 use Rattle.loops.proofs.ScheduleLaws.{scheduled-zero, scheduled-pow, scheduled-only}
 use Rattle.loops.specs.Detect.{State, leftmost, saves, move, Detected}
-use Rattle.loops.proofs.Held.{Held, Sound, detect-sound}
+use Rattle.loops.proofs.Held.{Held, Sound}
+use Rattle.loops.proofs.EachState.{detect-sound}
 use Rattle.search.specs.Next.{Book, Goal}
 use Rattle.search.specs.Step.{next_goal}
 use Rattle.search.specs.StepLaws.{lawful}

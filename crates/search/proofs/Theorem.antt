@@ -15,8 +15,9 @@ use Rattle.search.specs.Run.{Closed, close, verdict, run, goal_at, Roomy, Closes
 use Rattle.search.specs.Cycle.{CyclicFormula, Cyclic}
 use Rattle.search.specs.Codes.{Looping, Says, solved_20, loop_21, stuck_22, spent_23, full_24, unknown_26}
 use Rattle.search.specs.StepLaws.{lawful}
-use Rattle.search.proofs.NextLaws.{no-next}
-use Rattle.search.proofs.RunLaws.{state-sound, state-next, closing, run_iff, runs-step, runs-goal}
+use Rattle.search.proofs.NextTheorem.{no-next}
+use Rattle.search.proofs.RunLaws.{state-sound, state-next, closing, runs-step, runs-goal}
+use Rattle.search.proofs.RunTheorem.{run_iff}
 use Rattle.search.proofs.PathLaws.{path-formulas, path-next, path-numbered}
 use Rattle.search.proofs.TestLaws.{big_iff}
 use Rattle.search.proofs.CycleLaws.{formula_iff, cyclic_iff}

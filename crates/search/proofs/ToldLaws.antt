@@ -10,11 +10,13 @@ use Rattle.terms.specs.Cases.{cases}
 use Rattle.loops.specs.Detect.{State, start, Verdict, solved, loop, stuck, go_on, saves, move, Detected, Judged, judged, detect-zero, detect-back}
 use Rattle.search.specs.Next.{Book, Goal, Clauses, NoneMeets, Next}
 use Rattle.search.specs.Step.{next_goal}
-use Rattle.search.proofs.NextLaws.{first-none, next_one, no-next}
+use Rattle.search.proofs.NextLaws.{first-none, next_one}
+use Rattle.search.proofs.NextTheorem.{no-next}
 use Rattle.search.specs.Room.{fits}
 use Rattle.search.specs.Known.{Knows}
 use Rattle.search.specs.Run.{Closed, verdict, run, goal_at, state_at, Roomy, Closes, code_20, code_21, code_22, code_23, code_24, code_26, Runs}
-use Rattle.search.proofs.RunLaws.{state-sound, state-next, roomier, run_iff, runs-step}
+use Rattle.search.proofs.RunLaws.{state-sound, state-next, roomier, runs-step}
+use Rattle.search.proofs.RunTheorem.{run_iff}
 use Rattle.search.proofs.PathLaws.{path-formulas, path-next}
 use Rattle.search.proofs.TestLaws.{detected_iff, after_is, move-after, move-goal, big_iff}
 use Rattle.search.specs.Told.{ComesBack, After, TooBig, Closing, at_20, at_21, at_22, at_23, at_24, at_26, Reached, first, then, Told}

@@ -12,7 +12,7 @@ use Rattle.search.specs.Next.{Book, Goal}
 use Rattle.search.specs.Step.{next, next_goal}
 use Rattle.search.specs.Room.{nodes, fits_iff}
 use Rattle.search.specs.Run.{goal_at}
-use Rattle.search.proofs.NextLaws.{next_iff}
+use Rattle.search.proofs.NextTheorem.{next_iff}
 use Rattle.search.proofs.PathLaws.{step-goal}
 use Rattle.search.specs.Answer.{Answered, answer_at, Answers}
 use Rattle.search.proofs.AnswerLaws.{small_iff, answer-zero, answered-runs}

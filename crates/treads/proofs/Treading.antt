@@ -10,7 +10,7 @@ use borrow.Rule.Slice.PartMut.{put_mid, same_len_mid}
 use Rattle.terms.specs.Node.{Expr}
 use Rattle.terms.specs.Row.{Row, Every, Formulas}
 use Rattle.search.specs.Next.{Book, Goal, First, Resolved, clause_at}
-use Rattle.search.proofs.NextLaws.{next_iff}
+use Rattle.search.proofs.NextTheorem.{next_iff}
 use Rattle.search.specs.Step.{goal_in, next_goal}
 use Rattle.search.specs.Answer.{small, next_answer}
 use Rattle.search.proofs.AnswerLaws.{last-behind}
