@@ -1,4 +1,4 @@
--- What printing answers and what that means; the text record by record.
+-- What printing answers; the text record by record. What that means is in proofs/.
 pub mod Walk
 pub mod Laying
 pub mod Outcome
