@@ -1,6 +1,6 @@
 -- The sum over an area, byte by byte.
-use Rattle.std.proofs.Common.{◌≡◌, ℕ, suc, ◌+◌, ◌<◌, ◌≤◌, List, [], length, get_or, drop, sym as inv, refl, ap, ◌∙◌, arith, drop-cons}
-use lib.Seq.{drop-length}
+use Rattle.std.proofs.Common.{◌≡◌, ℕ, suc, ◌+◌, ◌<◌, ◌≤◌, List, length, get_or, drop, sym as inv, refl, ap, ◌∙◌, arith, drop-cons}
+use Rattle.std.proofs.Math.Seq.{drop-length}
 use Rattle.try_entries.specs.Sum.{added, summed_from, summed}
 
 pub record Summing (bytes : List ℕ) (i sum : ℕ) : Type 0 where

@@ -10,7 +10,7 @@ ghost use Rattle.try_entries.specs.Item.{holds_book, complete};
 use crate::{entries, flat, number, print, reading};
 
 fn next(byte: u8, more: u8) -> u8 {
-    std::num::wrapping_add_u8(byte, more)
+    byte.wrapping_add(more)
 }
 
 // What an area holds before the call.
@@ -32,32 +32,54 @@ fn least(a: usize, b: usize) -> usize
 }
 
 // Those that have a list of names.
-fn named(entry: u8, book: &[u8], goal: &[u8], names: &[u8], area: &mut [u8]) -> bool
+fn named(
+    rt: &impl Print,
+    entry: u8,
+    book: &[u8],
+    goal: &[u8],
+    names: &[u8],
+    area: &mut [u8],
+) -> bool
     ensures { result ≡ true }
 {
     match entry {
-        19 => print::goal(book, goal, names, area),
-        _ => print::answer(book, goal, names, area),
+        19 => print::goal(rt, book, goal, names, area),
+        _ => print::answer(rt, book, goal, names, area),
     }
 }
 
 // The list stands behind the goal; a length past the end is all there is.
-fn with_names(entry: u8, book: &[u8], length: usize, both: &[u8], area: &mut [u8]) -> bool
+fn with_names(
+    rt: &impl Print,
+    entry: u8,
+    book: &[u8],
+    length: usize,
+    both: &[u8],
+    area: &mut [u8],
+) -> bool
     ensures { result ≡ true }
 {
     let n = least(length, both.len());
-    named(entry, book, &both[0..n], &both[n..], area)
+    named(rt, entry, book, &both[0..n], &both[n..], area)
 }
 
 // A query's text, and the list behind it.
-fn asked(book: &[u8], length: usize, both: &[u8], area: &mut [u8], answer: &mut [u8]) -> bool
+fn asked(
+    rt: &impl Print,
+    book: &[u8],
+    length: usize,
+    both: &[u8],
+    area: &mut [u8],
+    answer: &mut [u8],
+) -> bool
     ensures { result ≡ true }
 {
     let n = least(length, both.len());
-    reading::query(&both[0..n], book, &both[n..], area, answer)
+    reading::query(rt, &both[0..n], book, &both[n..], area, answer)
 }
 
 fn call(
+    rt: &impl Print,
     entry: u8,
     number: u32,
     book: &[u8],
@@ -68,31 +90,32 @@ fn call(
     ensures { result ≡ true }
 {
     match entry {
-        2 => entries::check_query(book, query),
-        3 => entries::step(book, query, area),
-        4 => entries::run(book, query, number, area, answer),
-        5 => entries::run_for_c(book, query, number, area, answer),
-        6 => entries::pick(book, query),
-        7 => entries::apply(book, query, number, area),
-        8 => entries::pick_for_c(book, query),
-        9 => entries::apply_for_c(book, query, number, area),
-        10 => flat::check_book(book),
-        11 => flat::check_query(book, query),
-        12 => flat::step(book, query, area),
-        13 => flat::run(book, query, number, area, answer),
-        14 => flat::book_for_c(book),
-        15 => flat::query_for_c(book, query),
-        16 => flat::step_for_c(book, query, area),
-        17 => flat::run_for_c(book, query, number, area, answer),
-        18 => print::book(book, query, area),
-        21 => reading::rules(book, area, answer),
-        22 => asked(book, number as usize, query, area, answer),
-        _ => with_names(entry, book, number as usize, query, area),
+        2 => entries::check_query(rt, book, query),
+        3 => entries::step(rt, book, query, area),
+        4 => entries::run(rt, book, query, number, area, answer),
+        5 => entries::run_for_c(rt, book, query, number, area, answer),
+        6 => entries::pick(rt, book, query),
+        7 => entries::apply(rt, book, query, number, area),
+        8 => entries::pick_for_c(rt, book, query),
+        9 => entries::apply_for_c(rt, book, query, number, area),
+        10 => flat::check_book(rt, book),
+        11 => flat::check_query(rt, book, query),
+        12 => flat::step(rt, book, query, area),
+        13 => flat::run(rt, book, query, number, area, answer),
+        14 => flat::book_for_c(rt, book),
+        15 => flat::query_for_c(rt, book, query),
+        16 => flat::step_for_c(rt, book, query, area),
+        17 => flat::run_for_c(rt, book, query, number, area, answer),
+        18 => print::book(rt, book, query, area),
+        21 => reading::rules(rt, book, area, answer),
+        22 => asked(rt, book, number as usize, query, area, answer),
+        _ => with_names(rt, entry, book, number as usize, query, area),
     }
 }
 
 // Book and query one behind the other.
 fn apart(
+    rt: &impl Print,
     entry: u8,
     number: u32,
     both: &[u8],
@@ -105,17 +128,26 @@ fn apart(
     if both.len() < book {
         return false;
     }
-    call(entry, number, &both[0..book], &both[book..], area, answer)
+    call(
+        rt,
+        entry,
+        number,
+        &both[0..book],
+        &both[book..],
+        area,
+        answer,
+    )
 }
 
 // The item has its fields, and the areas lent are as long as it says.
-fn with_areas(entry: u8, item: &[u8], area: &mut [u8], answer: &mut [u8]) -> bool
+fn with_areas(rt: &impl Print, entry: u8, item: &[u8], area: &mut [u8], answer: &mut [u8]) -> bool
     requires { 20 ≤ length item.now }
     ensures { result ≡ holds_book item.now }
 {
     fill(area, item[8], item[9]);
     fill(answer, item[14], item[15]);
     apart(
+        rt,
         entry,
         number::at(item, 0),
         &item[20..],
@@ -126,7 +158,7 @@ fn with_areas(entry: u8, item: &[u8], area: &mut [u8], answer: &mut [u8]) -> boo
 }
 
 // Whether the item has all that its entry is called with; then it is.
-pub fn entry(entry: u8, item: &[u8], area: &mut [u8], answer: &mut [u8]) -> bool
+pub fn entry(rt: &impl Print, entry: u8, item: &[u8], area: &mut [u8], answer: &mut [u8]) -> bool
     ensures { result ≡ complete item.now (length area.old) (length answer.old) }
 {
     if item.len() < 20 {
@@ -140,5 +172,5 @@ pub fn entry(entry: u8, item: &[u8], area: &mut [u8], answer: &mut [u8]) -> bool
     if answer.len() < said {
         return false;
     }
-    with_areas(entry, item, &mut area[0..goal], &mut answer[0..said])
+    with_areas(rt, entry, item, &mut area[0..goal], &mut answer[0..said])
 }

@@ -1,22 +1,18 @@
-// The parts of a line: numbers, and the sum that stands for an area. Of what is written no contract can speak.
+// The parts of a line: numbers, and the sum that stands for an area. Of what is written no contract can speak; a write that fails changes nothing, and the next number is tried.
 ghost use Rattle.std.specs.Prelude.{◌≡◌, ◌<◌, true};
 ghost use Rattle.try_entries.specs.Sum.{added, summed};
 
-use libc::STDOUT_FILENO;
-
-pub fn number(n: u64) -> bool
+pub fn number(rt: &impl Print, n: u64) -> bool
     ensures { result ≡ true }
 {
-    io::print_decimal(STDOUT_FILENO, n);
-    io::write_all(STDOUT_FILENO, b" ");
+    let _ = print!(rt; "{n} ");
     true
 }
 
-pub fn last(n: u64) -> bool
+pub fn last(rt: &impl Print, n: u64) -> bool
     ensures { result ≡ true }
 {
-    io::print_decimal(STDOUT_FILENO, n);
-    io::write_all(STDOUT_FILENO, b"\n");
+    let _ = println!(rt; "{n}");
     true
 }
 

@@ -6,6 +6,8 @@
 // the check of a book (10), that of a query (11), a single step (12) and a run (13), and these four for C (14 to 17); a book (18), a goal (19) or an answer (20) to be printed; a text to be read as rules (21), and one to be read as a query (22). Numbers are most significant byte first. A stream that ends inside an item, or has an item that is none of these, gets the line `damaged`, and no item after it is tried.
 #![tactic(auto)]
 
+ghost use Rattle.std.specs.Prelude.{◌≤◌, length};
+
 mod entries;
 mod flat;
 mod lent;
@@ -14,57 +16,102 @@ mod number;
 mod print;
 mod reading;
 
-use libc::{STDIN_FILENO, STDOUT_FILENO};
+use std::io;
+use std::io::Read;
 
-fn damaged() -> bool {
-    io::write_all(STDOUT_FILENO, b"damaged\n");
+fn damaged(rt: &impl Print) -> bool {
+    let _ = rt.write_all(b"damaged\n");
     false
 }
 
-fn tried(entry: u8, item: &[u8], area: &mut [u8], answer: &mut [u8]) -> bool {
+fn tried(rt: &impl Print, entry: u8, item: &[u8], area: &mut [u8], answer: &mut [u8]) -> bool {
     match entry {
-        1 => entries::check_book(item),
-        2..=22 => lent::entry(entry, item, area, answer),
+        1 => entries::check_book(rt, item),
+        2..=22 => lent::entry(rt, entry, item, area, answer),
         _ => false,
     }
 }
 
+// Reads until the buffer is full, the input ends or a read fails, and says how many bytes are in it then.
+fn read_full(input: &mut impl Read, buffer: &mut [u8]) -> usize
+    ensures { result ≤ length buffer.new }
+{
+    let mut done = 0;
+    while done < buffer.len() {
+        match input.read(&mut buffer[done..]) {
+            Ok(0) => break,
+            Ok(n) => done += n,
+            Err(_) => break,
+        }
+    }
+    done
+}
+
 // The rest of an item, of a length that was read before it.
-fn rest(entry: u8, length: usize, item: &mut [u8], area: &mut [u8], answer: &mut [u8]) -> bool {
+fn rest(
+    rt: &impl Print,
+    input: &mut impl Read,
+    entry: u8,
+    length: usize,
+    item: &mut [u8],
+    area: &mut [u8],
+    answer: &mut [u8],
+) -> bool {
     if item.len() < length {
-        return damaged();
+        return damaged(rt);
     }
-    let n = io::read_full(STDIN_FILENO, &mut item[0..length]);
+    let n = read_full(input, &mut item[0..length]);
     if n < length {
-        return damaged();
+        return damaged(rt);
     }
-    if tried(entry, &item[0..length], area, answer) {
+    if tried(rt, entry, &item[0..length], area, answer) {
         return true;
     }
-    damaged()
+    damaged(rt)
 }
 
 // Whether another item may follow.
-fn one(item: &mut [u8], area: &mut [u8], answer: &mut [u8]) -> bool {
+fn one(
+    rt: &impl Print,
+    input: &mut impl Read,
+    item: &mut [u8],
+    area: &mut [u8],
+    answer: &mut [u8],
+) -> bool {
     let mut first = [0u8; 5];
-    match io::read_full(STDIN_FILENO, &mut first) {
+    match read_full(input, &mut first) {
         0 => false,
-        5 => rest(first[0], number::at(&first, 1) as usize, item, area, answer),
-        _ => damaged(),
+        5 => rest(
+            rt,
+            input,
+            first[0],
+            number::at(&first, 1) as usize,
+            item,
+            area,
+            answer,
+        ),
+        _ => damaged(rt),
     }
 }
 
-fn all(item: &mut [u8], area: &mut [u8], answer: &mut [u8]) {
+fn all(
+    rt: &impl Print,
+    input: &mut impl Read,
+    item: &mut [u8],
+    area: &mut [u8],
+    answer: &mut [u8],
+) {
     for i in 0..4294967295u32 {
-        if !one(item, area, answer) {
+        if !one(rt, input, item, area, answer) {
             return;
         }
     }
 }
 
-fn main() {
+fn main(rt: HostRuntime) -> io::Result<()> {
     let mut item = [0u8; 98304];
     let mut area = [0u8; 98304];
     let mut answer = [0u8; 98304];
-    all(&mut item, &mut area, &mut answer);
+    all(&rt, &mut rt.stdin(), &mut item, &mut area, &mut answer);
+    Ok(())
 }

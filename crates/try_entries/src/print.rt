@@ -6,35 +6,35 @@ ghost use Rattle.printouts.specs.Answer.{found_area};
 use crate::line::{last, number, sum};
 use printouts::Printout;
 
-fn printed(a: Printout, area: &[u8]) -> bool
+fn printed(rt: &impl Print, a: Printout, area: &[u8]) -> bool
     ensures { result ≡ true }
 {
-    number(a.code as u64);
-    number(a.place as u64);
-    number(a.bytes as u64);
-    last(sum(area))
+    number(rt, a.code as u64);
+    number(rt, a.place as u64);
+    number(rt, a.bytes as u64);
+    last(rt, sum(area))
 }
 
-pub fn book(book: &[u8], names: &[u8], area: &mut [u8]) -> bool
+pub fn book(rt: &impl Print, book: &[u8], names: &[u8], area: &mut [u8]) -> bool
     ensures value { result ≡ true }
     ensures area { area.new ≡ print_area book.now names.now area.old }
 {
     let a = printer::print_book(book, names, area);
-    printed(a, area)
+    printed(rt, a, area)
 }
 
-pub fn goal(book: &[u8], goal: &[u8], names: &[u8], area: &mut [u8]) -> bool
+pub fn goal(rt: &impl Print, book: &[u8], goal: &[u8], names: &[u8], area: &mut [u8]) -> bool
     ensures value { result ≡ true }
     ensures area { area.new ≡ goal_area book.now goal.now names.now area.old }
 {
     let a = printer::print_goal(book, goal, names, area);
-    printed(a, area)
+    printed(rt, a, area)
 }
 
-pub fn answer(book: &[u8], answer: &[u8], names: &[u8], area: &mut [u8]) -> bool
+pub fn answer(rt: &impl Print, book: &[u8], answer: &[u8], names: &[u8], area: &mut [u8]) -> bool
     ensures value { result ≡ true }
     ensures area { area.new ≡ found_area book.now answer.now names.now area.old }
 {
     let a = printer::print_answer(book, answer, names, area);
-    printed(a, area)
+    printed(rt, a, area)
 }
