@@ -1,5 +1,5 @@
 // What a run answers, in words.
-use crate::areas::goal_area;
+use crate::areas::{goal_area, large_area};
 use crate::circle::{Circle, say_circle};
 use crate::goals::{say_leftmost, say_rule, say_unknown};
 use crate::out::{number, say, steps, two_digits};
@@ -8,6 +8,7 @@ use crate::values::values;
 use outcomes::Answer;
 use printer::print_goal;
 use running::run;
+use std::io;
 
 // What the words on the command line ask for.
 #[derive(Clone, Copy)]
@@ -18,85 +19,101 @@ pub(crate) struct Wanted {
 }
 
 // The query's variables, each with what the answer has in its place.
-fn found(typed: &[u8], book: &[u8], query: &[u8], answer: &[u8], names: &[u8]) {
-    let mut asked = io::large_buffer();
-    let mut told = io::large_buffer();
+fn found(
+    rt: &impl Print,
+    typed: &[u8],
+    book: &[u8],
+    query: &[u8],
+    answer: &[u8],
+    names: &[u8],
+) -> io::Result<()> {
+    let mut asked = large_area();
+    let mut told = large_area();
     let a = print_goal(book, query, names, &mut asked);
     let b = print_goal(book, answer, names, &mut told);
-    values(typed, part(&asked, 0, a.bytes), part(&told, 0, b.bytes));
+    values(rt, typed, part(&asked, 0, a.bytes), part(&told, 0, b.bytes))
 }
 
-fn solved(n: u32) {
-    say(b"solved in ");
-    steps(n);
-    say(b"\n");
+fn solved(rt: &impl Print, n: u32) -> io::Result<()> {
+    say(rt, b"solved in ")?;
+    steps(rt, n)?;
+    say(rt, b"\n")
 }
 
-fn stuck(book: &[u8], goal: &[u8], names: &[u8], rules: &[u8], a: Answer) {
-    say(b"stuck after ");
-    steps(a.steps);
-    say(b" at ");
-    say_leftmost(book, goal, names);
-    say(b"\nfurthest: ");
-    say_rule(rules, a.furthest);
-    say(b"\nwhich fails at argument ");
-    number(a.argument);
-    say(b"\n");
+fn stuck(
+    rt: &impl Print,
+    book: &[u8],
+    goal: &[u8],
+    names: &[u8],
+    rules: &[u8],
+    a: Answer,
+) -> io::Result<()> {
+    say(rt, b"stuck after ")?;
+    steps(rt, a.steps)?;
+    say(rt, b" at ")?;
+    say_leftmost(rt, book, goal, names)?;
+    say(rt, b"\nfurthest: ")?;
+    say_rule(rt, rules, a.furthest)?;
+    say(rt, b"\nwhich fails at argument ")?;
+    number(rt, a.argument)?;
+    say(rt, b"\n")
 }
 
-fn ended(book: &[u8], goal: &[u8], names: &[u8], n: u32) {
-    say(b" after ");
-    steps(n);
-    say(b" at ");
-    say_leftmost(book, goal, names);
-    say(b"\n");
+fn ended(rt: &impl Print, book: &[u8], goal: &[u8], names: &[u8], n: u32) -> io::Result<()> {
+    say(rt, b" after ")?;
+    steps(rt, n)?;
+    say(rt, b" at ")?;
+    say_leftmost(rt, book, goal, names)?;
+    say(rt, b"\n")
 }
 
-fn spent(book: &[u8], goal: &[u8], names: &[u8], n: u32) {
-    say(b"steps used up");
-    ended(book, goal, names, n);
-    say(b"a larger number behind --budget allows more\n");
+fn spent(rt: &impl Print, book: &[u8], goal: &[u8], names: &[u8], n: u32) -> io::Result<()> {
+    say(rt, b"steps used up")?;
+    ended(rt, book, goal, names, n)?;
+    say(rt, b"a larger number behind --budget allows more\n")
 }
 
-fn full(book: &[u8], goal: &[u8], names: &[u8], n: u32) {
-    say(b"no room");
-    ended(book, goal, names, n);
+fn full(rt: &impl Print, book: &[u8], goal: &[u8], names: &[u8], n: u32) -> io::Result<()> {
+    say(rt, b"no room")?;
+    ended(rt, book, goal, names, n)?;
     say(
+        rt,
         b"the next goal has over 512 formulas or 4,096 names and variables; the handset holds no more, so the rules have to make smaller goals\n",
-    );
+    )
 }
 
-fn over(book: &[u8], goal: &[u8], names: &[u8], n: u32) {
-    say(b"no room for the answer");
-    ended(book, goal, names, n);
+fn over(rt: &impl Print, book: &[u8], goal: &[u8], names: &[u8], n: u32) -> io::Result<()> {
+    say(rt, b"no room for the answer")?;
+    ended(rt, book, goal, names, n)?;
     say(
+        rt,
         b"the next answer has over 4,096 names and variables; the handset holds no more, so the query has to ask for less\n",
-    );
+    )
 }
 
-fn hex(bytes: &[u8]) {
+fn hex(rt: &impl Print, bytes: &[u8]) -> io::Result<()> {
     let mut at = 0;
     while at < bytes.len() {
-        two_digits(bytes[at]);
+        two_digits(rt, bytes[at])?;
         at += 1;
     }
-    say(b"\n");
+    say(rt, b"\n")
 }
 
-fn after_blank(n: u32) {
-    say(b" ");
-    number(n);
+fn after_blank(rt: &impl Print, n: u32) -> io::Result<()> {
+    say(rt, b" ")?;
+    number(rt, n)
 }
 
 // `trace`'s five numbers, and the answer's bytes.
-fn numbers(a: Answer, answer: &[u8]) {
-    number(a.code as u32);
-    after_blank(a.place);
-    after_blank(a.steps);
-    after_blank(a.span);
-    after_blank(a.bytes);
-    say(b" ");
-    hex(answer);
+fn numbers(rt: &impl Print, a: Answer, answer: &[u8]) -> io::Result<()> {
+    number(rt, a.code as u32)?;
+    after_blank(rt, a.place)?;
+    after_blank(rt, a.steps)?;
+    after_blank(rt, a.span)?;
+    after_blank(rt, a.bytes)?;
+    say(rt, b" ")?;
+    hex(rt, answer)
 }
 
 fn less(a: u32, b: u32) -> u32 {
@@ -108,6 +125,7 @@ fn less(a: u32, b: u32) -> u32 {
 
 // `given` are the names of the rules, `names` those of the query too.
 pub(crate) fn answer(
+    rt: &impl Print,
     typed: &[u8],
     book: &[u8],
     query: &[u8],
@@ -115,23 +133,23 @@ pub(crate) fn answer(
     given: &[u8],
     rules: &[u8],
     w: Wanted,
-) {
+) -> io::Result<()> {
     let mut area = goal_area();
     let mut space = goal_area();
     let a = run(book, query, w.budget, &mut area, &mut space);
     let goal = part(&area, 0, a.bytes as usize);
     let told = part(&space, 0, a.answer as usize);
     if w.numbers {
-        numbers(a, told);
-        return;
+        return numbers(rt, a, told);
     }
     let code = a.code;
     match code {
         20 => {
-            found(typed, book, query, told, names);
-            solved(a.steps);
+            found(rt, typed, book, query, told, names)?;
+            solved(rt, a.steps)
         }
         21 => say_circle(
+            rt,
             book,
             query,
             names,
@@ -142,10 +160,10 @@ pub(crate) fn answer(
                 dot: w.dot,
             },
         ),
-        22 => stuck(book, goal, names, rules, a),
-        23 => spent(book, goal, names, a.steps),
-        24 => full(book, goal, names, a.steps),
-        27 => over(book, goal, names, a.steps),
-        _ => say_unknown(book, goal, names, given),
+        22 => stuck(rt, book, goal, names, rules, a),
+        23 => spent(rt, book, goal, names, a.steps),
+        24 => full(rt, book, goal, names, a.steps),
+        27 => over(rt, book, goal, names, a.steps),
+        _ => say_unknown(rt, book, goal, names, given),
     }
 }

@@ -5,6 +5,7 @@ use crate::out::{number, say, steps};
 use crate::text::part;
 use picker::pick;
 use running::run;
+use std::io;
 
 // The step at which the circle is entered, how many steps it has, and whether it is to be drawn.
 #[derive(Clone, Copy)]
@@ -14,33 +15,48 @@ pub(crate) struct Circle {
     pub(crate) dot: bool,
 }
 
-fn say_station(book: &[u8], goal: &[u8], names: &[u8], rules: &[u8], step: u32) {
-    say(b"step ");
-    number(step);
-    say(b": ");
-    say_leftmost(book, goal, names);
-    say(b"\n  by ");
-    say_rule(rules, pick(book, goal).clause);
-    say(b"\n");
+fn say_station(
+    rt: &impl Print,
+    book: &[u8],
+    goal: &[u8],
+    names: &[u8],
+    rules: &[u8],
+    step: u32,
+) -> io::Result<()> {
+    say(rt, b"step ")?;
+    number(rt, step)?;
+    say(rt, b": ")?;
+    say_leftmost(rt, book, goal, names)?;
+    say(rt, b"\n  by ")?;
+    say_rule(rt, rules, pick(book, goal).clause)?;
+    say(rt, b"\n")
 }
 
-fn arrow(from: u32, to: u32) {
-    say(b"  s");
-    number(from);
-    say(b" -> s");
-    number(to);
-    say(b" [label=\"");
+fn arrow(rt: &impl Print, from: u32, to: u32) -> io::Result<()> {
+    say(rt, b"  s")?;
+    number(rt, from)?;
+    say(rt, b" -> s")?;
+    number(rt, to)?;
+    say(rt, b" [label=\"")
 }
 
-fn draw_station(book: &[u8], goal: &[u8], names: &[u8], rules: &[u8], at: u32, next: u32) {
-    say(b"  s");
-    number(at);
-    say(b" [label=\"");
-    say_leftmost(book, goal, names);
-    say(b"\"];\n");
-    arrow(at, next);
-    say_rule(rules, pick(book, goal).clause);
-    say(b"\"];\n");
+fn draw_station(
+    rt: &impl Print,
+    book: &[u8],
+    goal: &[u8],
+    names: &[u8],
+    rules: &[u8],
+    at: u32,
+    next: u32,
+) -> io::Result<()> {
+    say(rt, b"  s")?;
+    number(rt, at)?;
+    say(rt, b" [label=\"")?;
+    say_leftmost(rt, book, goal, names)?;
+    say(rt, b"\"];\n")?;
+    arrow(rt, at, next)?;
+    say_rule(rt, rules, pick(book, goal).clause)?;
+    say(rt, b"\"];\n")
 }
 
 // The next station, the first again behind the last.
@@ -54,41 +70,65 @@ fn after(at: u32, span: u32) -> u32 {
 }
 
 // "run the same query with budget k, and read the goal that is left"
-fn station(book: &[u8], query: &[u8], names: &[u8], rules: &[u8], c: Circle, at: u32) {
+fn station(
+    rt: &impl Print,
+    book: &[u8],
+    query: &[u8],
+    names: &[u8],
+    rules: &[u8],
+    c: Circle,
+    at: u32,
+) -> io::Result<()> {
     let mut area = goal_area();
     let mut answer = goal_area();
-    let step = std::num::wrapping_add_u32(c.from, at);
+    let step = c.from.wrapping_add(at);
     let a = run(book, query, step, &mut area, &mut answer);
     let goal = part(&area, 0, a.bytes as usize);
     if c.dot {
-        draw_station(book, goal, names, rules, at, after(at, c.span));
+        draw_station(rt, book, goal, names, rules, at, after(at, c.span))?;
     } else {
-        say_station(book, goal, names, rules, step);
+        say_station(rt, book, goal, names, rules, step)?;
     }
+    Ok(())
 }
 
-fn begin(c: Circle) {
+fn begin(rt: &impl Print, c: Circle) -> io::Result<()> {
     if c.dot {
-        say(b"digraph circle {\n");
-        return;
+        return say(rt, b"digraph circle {\n");
     }
-    say(b"loop: the goal of step ");
-    number(c.from);
-    say(b" is in a circle of ");
-    steps(c.span);
-    say(b", and the search would never end\n");
+    say(rt, b"loop: the goal of step ")?;
+    number(rt, c.from)?;
+    say(rt, b" is in a circle of ")?;
+    steps(rt, c.span)?;
+    say(rt, b", and the search would never end\n")
 }
 
-fn stations(book: &[u8], query: &[u8], names: &[u8], rules: &[u8], c: Circle) {
+fn stations(
+    rt: &impl Print,
+    book: &[u8],
+    query: &[u8],
+    names: &[u8],
+    rules: &[u8],
+    c: Circle,
+) -> io::Result<()> {
     for at in 0..c.span {
-        station(book, query, names, rules, c, at);
+        station(rt, book, query, names, rules, c, at)?;
     }
+    Ok(())
 }
 
-pub(crate) fn say_circle(book: &[u8], query: &[u8], names: &[u8], rules: &[u8], c: Circle) {
-    begin(c);
-    stations(book, query, names, rules, c);
+pub(crate) fn say_circle(
+    rt: &impl Print,
+    book: &[u8],
+    query: &[u8],
+    names: &[u8],
+    rules: &[u8],
+    c: Circle,
+) -> io::Result<()> {
+    begin(rt, c)?;
+    stations(rt, book, query, names, rules, c)?;
     if c.dot {
-        say(b"}\n");
+        say(rt, b"}\n")?;
     }
+    Ok(())
 }

@@ -1,8 +1,10 @@
 // Goals and rules as text, by the names of the rules.
+use crate::areas::large_area;
 use crate::nearest::nearest;
 use crate::out::{number, say};
 use crate::text::{commas, next_of, nth_line, part, term_end, word_end};
 use printer::print_goal;
+use std::io;
 
 // How many bytes of an area the leftmost formula of a goal takes.
 fn leftmost(book: &[u8], goal: &[u8], names: &[u8], area: &mut [u8]) -> usize {
@@ -13,35 +15,46 @@ fn leftmost(book: &[u8], goal: &[u8], names: &[u8], area: &mut [u8]) -> usize {
     0
 }
 
-pub(crate) fn say_leftmost(book: &[u8], goal: &[u8], names: &[u8]) {
-    let mut area = io::large_buffer();
+pub(crate) fn say_leftmost(
+    rt: &impl Print,
+    book: &[u8],
+    goal: &[u8],
+    names: &[u8],
+) -> io::Result<()> {
+    let mut area = large_area();
     let end = leftmost(book, goal, names, &mut area);
-    say(part(&area, 0, end));
+    say(rt, part(&area, 0, end))
 }
 
 // A book is printed a clause a line.
-pub(crate) fn say_rule(rules: &[u8], clause: u32) {
+pub(crate) fn say_rule(rt: &impl Print, rules: &[u8], clause: u32) -> io::Result<()> {
     let start = nth_line(rules, clause);
-    say(part(rules, start, next_of(rules, start, b'\n')));
+    say(rt, part(rules, start, next_of(rules, start, b'\n')))
 }
 
 // A predicate by its name and how many arguments it has, and the names that are nearest to it among those of the rules.
-fn say_predicate(formula: &[u8], given: &[u8]) {
+fn say_predicate(rt: &impl Print, formula: &[u8], given: &[u8]) -> io::Result<()> {
     let name = word_end(formula, 0);
-    say(b"no rule for ");
-    say(part(formula, 0, name));
-    say(b"/");
+    say(rt, b"no rule for ")?;
+    say(rt, part(formula, 0, name))?;
+    say(rt, b"/")?;
     if name < formula.len() {
-        number(std::num::wrapping_add_u32(commas(formula), 1));
+        number(rt, commas(formula).wrapping_add(1))?;
     } else {
-        number(0);
+        number(rt, 0)?;
     }
-    say(b"\n");
-    nearest(given, part(formula, 0, name));
+    say(rt, b"\n")?;
+    nearest(rt, given, part(formula, 0, name))
 }
 
-pub(crate) fn say_unknown(book: &[u8], goal: &[u8], names: &[u8], given: &[u8]) {
-    let mut area = io::large_buffer();
+pub(crate) fn say_unknown(
+    rt: &impl Print,
+    book: &[u8],
+    goal: &[u8],
+    names: &[u8],
+    given: &[u8],
+) -> io::Result<()> {
+    let mut area = large_area();
     let end = leftmost(book, goal, names, &mut area);
-    say_predicate(part(&area, 0, end), given);
+    say_predicate(rt, part(&area, 0, end), given)
 }

@@ -2,6 +2,8 @@
 // read, run and printed by them.
 #![tactic(auto)]
 
+ghost use Rattle.std.specs.Prelude.{◌≤◌, length};
+
 mod answers;
 mod areas;
 mod circle;
@@ -14,25 +16,34 @@ mod values;
 mod words;
 
 use crate::answers::{Wanted, answer};
-use crate::areas::{book_area, goal_area, list_area, names_area, text_area};
+use crate::areas::{book_area, goal_area, large_area, list_area, names_area, text_area, word_area};
 use crate::out::say;
 use crate::refusal::refused;
 use crate::text::part;
-use crate::words::Words;
-use libc::STDIN_FILENO;
+use crate::words::{Words, word};
 use printer::print_book;
 use queries::read_query;
+use std::fs::File;
+use std::io;
+use std::io::{IsTerminal, Read};
 use texts::read_text;
 
-fn ask(typed: &[u8], book: &[u8], names: &[u8], rules: &[u8], w: Wanted) {
+fn ask(
+    rt: &impl Print,
+    typed: &[u8],
+    book: &[u8],
+    names: &[u8],
+    rules: &[u8],
+    w: Wanted,
+) -> io::Result<()> {
     let mut query = goal_area();
     let mut list = list_area();
     let r = read_query(typed, book, names, &mut query, &mut list);
     if r.code != 0 {
-        refused(false, typed, r.code, r.place as usize);
-        return;
+        return refused(rt, false, typed, r.code, r.place as usize);
     }
     answer(
+        rt,
         typed,
         book,
         part(&query, 0, r.query as usize),
@@ -40,7 +51,7 @@ fn ask(typed: &[u8], book: &[u8], names: &[u8], rules: &[u8], w: Wanted) {
         names,
         rules,
         w,
-    );
+    )
 }
 
 // A line of standard input, and whether the input ended with it.
@@ -50,11 +61,11 @@ struct Line {
     last: bool,
 }
 
-fn read_line(line: &mut [u8]) -> Line {
+fn read_line(input: &mut impl Read, line: &mut [u8]) -> Line {
     let mut n = 0;
     while n < line.len() {
         let mut one = [0u8; 1];
-        if io::read_full(STDIN_FILENO, &mut one) == 0 {
+        if read_full(input, &mut one) == 0 {
             return Line {
                 length: n,
                 last: true,
@@ -75,85 +86,125 @@ fn read_line(line: &mut [u8]) -> Line {
     }
 }
 
-fn prompt() {
-    if libc::isatty(STDIN_FILENO) == 1 {
-        say(b"?- ");
+fn prompt(rt: &HostRuntime) -> io::Result<()> {
+    if rt.stdin().is_terminal() {
+        say(rt, b"?- ")?;
     }
+    Ok(())
 }
 
 // A line asked, if there is anything on it; and whether another may follow.
-fn ask_line(book: &[u8], names: &[u8], rules: &[u8], w: Wanted) -> bool {
-    let mut line = io::large_buffer();
-    prompt();
-    let read = read_line(&mut line);
+fn ask_line(
+    rt: &HostRuntime,
+    book: &[u8],
+    names: &[u8],
+    rules: &[u8],
+    w: Wanted,
+) -> io::Result<bool> {
+    let mut line = large_area();
+    prompt(rt)?;
+    let read = read_line(&mut rt.stdin(), &mut line);
     if 0 < read.length {
-        ask(part(&line, 0, read.length), book, names, rules, w);
+        ask(rt, part(&line, 0, read.length), book, names, rules, w)?;
     }
-    !read.last
+    Ok(!read.last)
 }
 
-fn ask_lines(book: &[u8], names: &[u8], rules: &[u8], w: Wanted) {
+fn ask_lines(
+    rt: &HostRuntime,
+    book: &[u8],
+    names: &[u8],
+    rules: &[u8],
+    w: Wanted,
+) -> io::Result<()> {
     for turn in 0..4294967295u32 {
-        if !ask_line(book, names, rules, w) {
-            return;
+        if !ask_line(rt, book, names, rules, w)? {
+            return Ok(());
         }
     }
+    Ok(())
 }
 
-fn ask_word(at: usize, book: &[u8], names: &[u8], rules: &[u8], w: Wanted) {
-    let mut word = names_area();
-    let n = os::arg(at, &mut word);
-    ask(part(&word, 0, n), book, names, rules, w);
+fn ask_word(
+    rt: &HostRuntime,
+    at: usize,
+    book: &[u8],
+    names: &[u8],
+    rules: &[u8],
+    w: Wanted,
+) -> io::Result<()> {
+    let mut typed = names_area();
+    let n = word(rt, at, &mut typed);
+    ask(rt, part(&typed, 0, n), book, names, rules, w)
 }
 
 // The rules are printed once, for the clauses that are shown.
-fn with_book(book: &[u8], names: &[u8], w: Words) {
-    let mut printed = io::large_buffer();
+fn with_book(rt: &HostRuntime, book: &[u8], names: &[u8], w: Words) -> io::Result<()> {
+    let mut printed = large_area();
     let p = print_book(book, names, &mut printed);
     let rules = part(&printed, 0, p.bytes);
     let wanted = w.wanted;
     if w.query == 0 {
-        ask_lines(book, names, rules, wanted);
-        return;
+        return ask_lines(rt, book, names, rules, wanted);
     }
-    ask_word(w.query, book, names, rules, wanted);
+    ask_word(rt, w.query, book, names, rules, wanted)
 }
 
-fn with_rules(typed: &[u8], w: Words) {
+fn with_rules(rt: &HostRuntime, typed: &[u8], w: Words) -> io::Result<()> {
     let mut book = book_area();
     let mut names = names_area();
     let r = read_text(typed, &mut book, &mut names);
     if r.code != 0 {
-        refused(true, typed, r.code, r.place as usize);
-        return;
+        return refused(rt, true, typed, r.code, r.place as usize);
     }
     with_book(
+        rt,
         part(&book, 0, r.book as usize),
         part(&names, 0, r.names as usize),
         w,
-    );
+    )
 }
 
-fn with_file(path: &[u8], w: Words) {
-    let file = os::open_read(path);
-    if file < 0 {
-        say(b"there is no file ");
-        say(path);
-        say(b" to read rules from\n");
-        return;
+// Reads until the buffer is full, the input ends or a read fails, and says how many bytes are in it then.
+fn read_full(input: &mut impl Read, buffer: &mut [u8]) -> usize
+    ensures { result ≤ length buffer.new }
+{
+    let mut done = 0;
+    while done < buffer.len() {
+        match input.read(&mut buffer[done..]) {
+            Ok(0) => break,
+            Ok(n) => done += n,
+            Err(_) => break,
+        }
     }
+    done
+}
+
+// As much of a file as there is room for; nothing where it can't be opened. The library opens only paths that are UTF-8.
+fn read_file(rt: &HostRuntime, path: &[u8], area: &mut [u8]) -> Option<usize> {
+    let name = str::from_utf8(path).ok()?;
+    let mut file = File::open(rt, name).ok()?;
+    Some(read_full(&mut file, area))
+}
+
+fn with_file(rt: &HostRuntime, path: &[u8], w: Words) -> io::Result<()> {
     let mut typed = text_area();
-    let n = io::read_full(file, &mut typed);
-    libc::close(file);
-    with_rules(part(&typed, 0, n), w);
+    match read_file(rt, path, &mut typed) {
+        None => {
+            say(rt, b"there is no file ")?;
+            say(rt, path)?;
+            say(rt, b" to read rules from\n")
+        }
+        Some(n) => with_rules(rt, part(&typed, 0, n), w),
+    }
 }
 
-fn main() {
-    let w = words::read();
-    if !words::complete(w) {
-        return;
+fn main(rt: HostRuntime) -> io::Result<()> {
+    let w = words::read(&rt);
+    if !words::complete(&rt, w)? {
+        return Ok(());
     }
-    let mut path = io::buffer();
-    let n = os::arg(w.rules, &mut path);
-    with_file(part(&path, 0, n), w);
+    let mut path = word_area();
+    let n = word(&rt, w.rules, &mut path);
+    with_file(&rt, part(&path, 0, n), w)
 }

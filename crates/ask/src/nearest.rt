@@ -1,6 +1,7 @@
 // The predicates of the rules whose names are nearest to one that has no rule.
 use crate::out::say;
 use crate::text::{byte, part, smaller};
+use std::io;
 
 // How many bytes two names have in common at their beginning.
 fn same_front(a: &[u8], b: &[u8]) -> usize {
@@ -93,26 +94,27 @@ fn shortest(names: &[u8], word: &[u8]) -> usize {
     least
 }
 
-fn show(names: &[u8], at: usize, word: &[u8], far: usize) {
+fn show(rt: &impl Print, names: &[u8], at: usize, word: &[u8], far: usize) -> io::Result<()> {
     if reach(names, at, word) == far {
-        say(b" ");
-        say(name_at(names, at));
+        say(rt, b" ")?;
+        say(rt, name_at(names, at))?;
     }
+    Ok(())
 }
 
 // The names that are nearest, if any has a letter of the word's in its place.
-pub(crate) fn nearest(names: &[u8], word: &[u8]) {
+pub(crate) fn nearest(rt: &impl Print, names: &[u8], word: &[u8]) -> io::Result<()> {
     let far = shortest(names, word);
     if word.len() <= far {
-        return;
+        return Ok(());
     }
-    say(b"nearest:");
+    say(rt, b"nearest:")?;
     let mut at = 0;
     let mut turns = names.len();
     while 0 < turns {
-        show(names, at, word, far);
+        show(rt, names, at, word, far)?;
         at = entry_behind(names, at);
         turns -= 1;
     }
-    say(b"\n");
+    say(rt, b"\n")
 }

@@ -1,25 +1,24 @@
 // What is printed.
-use libc::STDOUT_FILENO;
+use std::io;
 
-pub(crate) fn say(words: &[u8]) {
-    io::write_all(STDOUT_FILENO, words);
+pub(crate) fn say(rt: &impl Print, words: &[u8]) -> io::Result<()> {
+    rt.write_all(words)
 }
 
-pub(crate) fn number(n: u32) {
-    io::print_decimal(STDOUT_FILENO, n as u64);
+pub(crate) fn number(rt: &impl Print, n: u32) -> io::Result<()> {
+    rt.print(n)
 }
 
 // `1 step`, `2 steps`
-pub(crate) fn steps(n: u32) {
-    number(n);
+pub(crate) fn steps(rt: &impl Print, n: u32) -> io::Result<()> {
+    number(rt, n)?;
     if n == 1 {
-        say(b" step");
-        return;
+        return say(rt, b" step");
     }
-    say(b" steps");
+    say(rt, b" steps")
 }
 
 // A byte in hexadecimal.
-pub(crate) fn two_digits(b: u8) {
-    io::print_hex(STDOUT_FILENO, b as u64, 2);
+pub(crate) fn two_digits(rt: &impl Print, b: u8) -> io::Result<()> {
+    print!(rt; "{b:02x}")
 }

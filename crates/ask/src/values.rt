@@ -2,6 +2,7 @@
 // number, and the answer has what it stands for; the variables of the query as it was typed come in the same order.
 use crate::out::say;
 use crate::text::{byte, digit, one_more, part, past, term_end, word_end};
+use std::io;
 
 // In what is printed a variable is an argument, and so stands behind a bracket or a comma.
 fn is_variable(printed: &[u8], at: usize) -> bool {
@@ -60,52 +61,58 @@ struct Walk {
 }
 
 // "each lone `_` a new variable": its value was not asked for.
-fn show(name: &[u8], value: &[u8]) {
+fn show(rt: &impl Print, name: &[u8], value: &[u8]) -> io::Result<()> {
     if name.len() == 1 {
         if byte(name, 0) == b'_' {
-            return;
+            return Ok(());
         }
     }
-    say(name);
-    say(b" = ");
-    say(value);
-    say(b"\n");
+    say(rt, name)?;
+    say(rt, b" = ")?;
+    say(rt, value)?;
+    say(rt, b"\n")
 }
 
 // Variables are numbered by first appearance, so that one met first has the number of those met before.
-fn variable(w: Walk, typed: &[u8], asked: &[u8], answer: &[u8]) -> Walk {
+fn variable(
+    rt: &impl Print,
+    w: Walk,
+    typed: &[u8],
+    asked: &[u8],
+    answer: &[u8],
+) -> io::Result<Walk> {
     let end = word_end(asked, w.asked);
     let to = term_end(answer, w.answer);
     let name = next_variable(typed, w.typed);
     let behind = word_end(typed, name);
     let mut met = w.met;
     if decimal(asked, one_more(w.asked, asked), end) == met {
-        show(part(typed, name, behind), part(answer, w.answer, to));
+        show(rt, part(typed, name, behind), part(answer, w.answer, to))?;
         if met < 65536 {
             met += 1;
         }
     }
-    Walk {
+    Ok(Walk {
         asked: end,
         answer: to,
         typed: behind,
         met,
-    }
+    })
 }
 
-fn step(w: Walk, typed: &[u8], asked: &[u8], answer: &[u8]) -> Walk {
+fn step(rt: &impl Print, w: Walk, typed: &[u8], asked: &[u8], answer: &[u8]) -> io::Result<Walk> {
     if is_variable(asked, w.asked) {
-        return variable(w, typed, asked, answer);
+        return variable(rt, w, typed, asked, answer);
     }
-    Walk {
+    Ok(Walk {
         asked: one_more(w.asked, asked),
         answer: one_more(w.answer, answer),
         typed: w.typed,
         met: w.met,
-    }
+    })
 }
 
-pub(crate) fn values(typed: &[u8], asked: &[u8], answer: &[u8]) {
+pub(crate) fn values(rt: &impl Print, typed: &[u8], asked: &[u8], answer: &[u8]) -> io::Result<()> {
     let mut w = Walk {
         asked: 0,
         answer: 0,
@@ -114,7 +121,8 @@ pub(crate) fn values(typed: &[u8], asked: &[u8], answer: &[u8]) {
     };
     let mut turns = asked.len();
     while 0 < turns {
-        w = step(w, typed, asked, answer);
+        w = step(rt, w, typed, asked, answer)?;
         turns -= 1;
     }
+    Ok(())
 }

@@ -1,7 +1,10 @@
 // The words of the command line.
 use crate::answers::Wanted;
+use crate::areas::word_area;
 use crate::out::say;
 use crate::text::{byte, digit, is_digit, part};
+use std::env::{Env, FillError};
+use std::io;
 
 #[derive(Clone, Copy)]
 pub(crate) enum Mood {
@@ -153,9 +156,14 @@ fn next(w: Words, word: &[u8], at: usize) -> Words {
     }
 }
 
-fn with(w: Words, at: usize) -> Words {
-    let mut buffer = io::buffer();
-    let n = os::arg(at, &mut buffer);
+// A word of the command line; nothing is there where it has more bytes than the area.
+pub(crate) fn word(rt: &impl Env, at: usize, area: &mut [u8]) -> usize {
+    rt.arg(at, area).unwrap_or(0)
+}
+
+fn with(rt: &impl Env, w: Words, at: usize) -> Words {
+    let mut buffer = word_area();
+    let n = word(rt, at, &mut buffer);
     next(w, part(&buffer, 0, n), at)
 }
 
@@ -173,50 +181,83 @@ fn none() -> Words {
     }
 }
 
-pub(crate) fn read() -> Words {
+// Behind the last word, and only there, none is present.
+fn is_there(rt: &impl Env, at: usize) -> bool {
+    match rt.arg(at, &mut [0u8; 0]) {
+        Err(FillError::NotPresent) => false,
+        _ => true,
+    }
+}
+
+pub(crate) fn read(rt: &impl Env) -> Words {
     let mut w = none();
-    for at in 1..os::arg_count() {
-        w = with(w, at);
+    for at in 1..usize::MAX {
+        if !is_there(rt, at) {
+            return w;
+        }
+        w = with(rt, w, at);
     }
     w
 }
 
-fn usage() {
-    say(b"ask RULES QUERY     answers one query by the rules of a file, both as text\n");
-    say(b"ask RULES           answers queries from standard input, one a line\n");
-    say(b"  --budget N        takes at most N steps; 10000 where it is left out\n");
-    say(b"  --dot             draws a circle as a graph in DOT\n");
-    say(b"  --numbers         prints code, place, steps, span, bytes and the answer's bytes\n");
+fn usage(rt: &impl Print) -> io::Result<()> {
     say(
+        rt,
+        b"ask RULES QUERY     answers one query by the rules of a file, both as text\n",
+    )?;
+    say(
+        rt,
+        b"ask RULES           answers queries from standard input, one a line\n",
+    )?;
+    say(
+        rt,
+        b"  --budget N        takes at most N steps; 10000 where it is left out\n",
+    )?;
+    say(
+        rt,
+        b"  --dot             draws a circle as a graph in DOT\n",
+    )?;
+    say(
+        rt,
+        b"  --numbers         prints code, place, steps, span, bytes and the answer's bytes\n",
+    )?;
+    say(
+        rt,
         b"A rule is `head.` or `head :- formula, formula.`, a query `formula, formula`; names begin with a small letter, variables with a capital one.\n",
-    );
+    )
 }
 
 // Whether there is something to ask; otherwise why not is said.
-pub(crate) fn complete(w: Words) -> bool {
+pub(crate) fn complete(rt: &impl Print, w: Words) -> io::Result<bool> {
     let mood = w.mood;
     match mood {
         Mood::Ready => {
             if w.rules == 0 {
-                usage();
+                usage(rt)?;
             }
-            w.rules != 0
+            Ok(w.rules != 0)
         }
         Mood::Number => {
-            say(b"--budget wants a number\n");
-            false
+            say(rt, b"--budget wants a number\n")?;
+            Ok(false)
         }
         Mood::Help => {
-            usage();
-            false
+            usage(rt)?;
+            Ok(false)
         }
         Mood::All => {
-            say(b"--all is not there yet: the search follows one path, and lists one answer\n");
-            false
+            say(
+                rt,
+                b"--all is not there yet: the search follows one path, and lists one answer\n",
+            )?;
+            Ok(false)
         }
         Mood::Wrong => {
-            say(b"ask does not know what to do with these words; ask --help says what it takes\n");
-            false
+            say(
+                rt,
+                b"ask does not know what to do with these words; ask --help says what it takes\n",
+            )?;
+            Ok(false)
         }
     }
 }
