@@ -35,14 +35,14 @@ pub(crate) fn goal_area() -> [u8; 16387]
     [0; 16387]
 }
 
-// What is printed has at most as many bytes.
+// For a line of standard input, and for a book or a goal as text.
 pub(crate) fn large_area() -> [u8; 65536]
     ensures { 65536 ≡ length result }
 {
     [0; 65536]
 }
 
-// The longest path has fewer.
+// For a word of the command line; the longest path has fewer bytes.
 pub(crate) fn word_area() -> [u8; 4096]
     ensures { 4096 ≡ length result }
 {

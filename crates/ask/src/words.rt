@@ -156,7 +156,7 @@ fn next(w: Words, word: &[u8], at: usize) -> Words {
     }
 }
 
-// A word of the command line; nothing is there where it has more bytes than the area.
+// Puts a word of the command line in the area, and says how many bytes it has; 0 where it has more than the area.
 pub(crate) fn word(rt: &impl Env, at: usize, area: &mut [u8]) -> usize {
     rt.arg(at, area).unwrap_or(0)
 }
@@ -181,7 +181,7 @@ fn none() -> Words {
     }
 }
 
-// Behind the last word, and only there, none is present.
+// Whether the command line has so many words; one that is longer than the area is there too.
 fn is_there(rt: &impl Env, at: usize) -> bool {
     match rt.arg(at, &mut [0u8; 0]) {
         Err(FillError::NotPresent) => false,
