@@ -2,7 +2,6 @@
 use Rattle.std.specs.Prelude.{ℕ, ◌≤◌, List, length}
 use Rattle.grammar.specs.Syntax.{Formula}
 use Rattle.grammar.specs.Query.{Asks, SizedQuery}
-use Rattle.asking.specs.Asking.{read}
 
 pub record Accepted (text : List ℕ) (fs : List Formula) : Type 0 where
   pub asks : Asks text fs

@@ -1,5 +1,5 @@
 -- The path of a flat query by a flat book stays flat, and keeps the symbols of the two.
-use Rattle.std.specs.Prelude.{ℕ, zero, suc, ◌+◌, ◌≡◌, refl, List, [], ◌∷◌, ◌++◌, map}
+use Rattle.std.specs.Prelude.{ℕ, zero, suc, ◌≡◌, refl, List, [], ◌∷◌, ◌++◌, map}
 use Rattle.std.proofs.Common.{add-zero, sym as inv, ◌∙◌, subst}
 use Rattle.std.proofs.Math.Option.{Option, none, some, some-injective, none-ne-some}
 use Rattle.terms.specs.Node.{Symbol, predicate, var, sym, Expr}

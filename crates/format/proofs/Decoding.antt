@@ -12,7 +12,6 @@ use Rattle.words.specs.Flat.{flat}
 use Rattle.format.specs.declared.Check.{Check}
 use Rattle.format.specs.declared.Form.TheVariants.{Query}
 use Rattle.format.specs.declared.Record.{Record}
-use Rattle.format.specs.declared.Record.TheVariants.{Goal}
 use Rattle.format.specs.Reading.{body_length, verdict, met, book_verdict, query_verdict}
 use Rattle.format.specs.Arities.{book_uses, goal_uses, OneArity, Suits, Memory, nothing_met, recall}
 use Rattle.format.specs.Format.{record_kind, encode, node_records, AreFormulas, book_records, GoodClauses, GoodBook, encode_book, goal_records, GoodGoal, encode_goal, Bytes}

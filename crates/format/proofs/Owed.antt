@@ -6,7 +6,6 @@ use mathlib.Core.Bool.{Bool, true, false}
 use mathlib.Core.List.{List, [], ◌∷◌, ◌++◌, append-nil}
 use lib.ListN.{length}
 use Rattle.terms.specs.Node.{predicate, Node, sym, Expr}
-use Rattle.search.specs.Next as Next
 use Rattle.words.specs.Flat.{flat}
 use Rattle.format.specs.declared.State.{State}
 use Rattle.format.specs.declared.Form.{Form}
@@ -17,7 +16,7 @@ use Rattle.format.specs.Reading.{allowed, in_range, is_in_order, after_node, bet
 use Rattle.format.specs.Format.{record_kind, node_record, node_records, Terms, terms_none, terms_var, terms_constant, terms_compound, formula, AreFormulas}
 use Rattle.format.specs.Faulty.{Complete}
 use Rattle.format.proofs.Items.{NarrowRecord}
-use Rattle.format.proofs.Numbering.{Ordered, numbered, ordered}
+use Rattle.format.proofs.Numbering.{Ordered, numbered}
 
 -- a record that may stand next, but for its size
 pub record MayStand (form : Form) (state : State) (r : Record) : Type 0 where

@@ -3,7 +3,6 @@ use Rattle.std.specs.Prelude.{ℕ, zero, suc, ◌+◌, ◌≤◌, ◌<◌, ◌�
 use Rattle.std.proofs.Common.{ap, ◌∙◌, arith, length-append}
 use Rattle.terms.specs.Node.{sym, Expr}
 use Rattle.search.specs.Next as Next
-use Rattle.search.specs.Room.{nodes}
 use Rattle.words.specs.Flat.{flat, flat-size}
 use Rattle.words.specs.Word.{words_of}
 use Rattle.words.specs.PackLaws.{words-length}

@@ -1,14 +1,10 @@
 -- Every state of the detector holds it (document 001, Lemma 10).
-use Rattle.std.specs.Prelude.{ℕ, zero, suc, ◌≤◌, ◌<◌, Bool, true, false, ◌||◌, ◌≡◌, refl, List, [], ◌∷◌, ltb, length}
-use Rattle.std.proofs.Math.Decide.{dec_lt}
-use Rattle.std.proofs.Common.{arith, sym, ap, subst, ◌∙◌, ltb-true, ltb-false}
-use Rattle.std.proofs.lemmas.Bool.{false≢true}
+use Rattle.std.specs.Prelude.{ℕ, zero, suc, Bool, true, false, ◌≡◌, refl, List}
+use Rattle.std.proofs.Common.{ap, subst, ◌∙◌}
 use mathlib.Core.HLevel.{Discrete}
-use Rattle.std.proofs.Math.Option.{Option, none, some, none-ne-some}
-use Rattle.loops.specs.Path.{Successor, path, path-zero, path-on}
-use Rattle.loops.specs.Schedule.{scheduled}
-use Rattle.loops.proofs.ScheduleLaws.{scheduled-zero}
-use Rattle.loops.specs.Detect.{State, start, leftmost, saves, move, Detected, detect, Judged, judged, detect-zero, detect-back}
+use Rattle.std.proofs.Math.Option.{Option, some}
+use Rattle.loops.specs.Path.{Successor, path-on}
+use Rattle.loops.specs.Detect.{State, start, saves, move, Detected, detect, Judged, judged, detect-zero, detect-back}
 use Rattle.loops.proofs.Held.{Sound, sound-start, saved-next, kept_next, move_step}
 
 module _ {F : Type 0} (next : List F → Option (List F)) (laws : Successor next) (q : List F) (s : State F) (i : Sound next q s) where

@@ -1,17 +1,10 @@
 -- Theorem 1 and Corollary 2 of document 001, from what a reported loop means and that every cyclic loop is reported.
-use Rattle.std.specs.Prelude.{ℕ, zero, suc, ◌+◌, ◌-◌, ◌*◌, ◌≤◌, ◌<◌, max, true, ◌↔◌, ◌⊎◌, ◌≡◌, refl, List, [], ◌∷◌, ◌++◌, length}
-use Rattle.std.proofs.Math.Decide.{dec_lt}
-use Rattle.std.proofs.Common.{arith, inl, inr, sym, ap, subst, ◌∙◌}
-use Rattle.std.proofs.lemmas.Bool.{false≢true}
+use Rattle.std.specs.Prelude.{ℕ, ◌↔◌, refl, List, ◌∷◌}
 use mathlib.Core.HLevel.{Discrete}
-use Rattle.std.proofs.Math.Option.{Option, none, some, none-ne-some}
-use Rattle.loops.specs.Path.{Successor, path, Goes, path-sum, path-on, carry, carried, alone}
-use Rattle.loops.specs.Cyclic.{CyclicFormula, PrimitiveCyclic, Cyclic, primitive-cyclic, formula-cyclic, cyclic-on, endless, cyclic-grows, low-primitive, primitive-low}
-use Rattle.loops.specs.Schedule.{scheduled}
-use Rattle.loops.proofs.ScheduleLaws.{window}
-use Rattle.loops.specs.Detect.{State, Verdict, solved, loop, stuck, go_on, start, Detected, judge, detect, Reported, Judged, judged, detect-zero, detect-on, detect-back}
-use Rattle.loops.proofs.Held.{Kept, Held, Sound, Quiet}
-use Rattle.loops.proofs.EachState.{detect-sound}
+use Rattle.std.proofs.Math.Option.{Option}
+use Rattle.loops.specs.Path.{Successor}
+use Rattle.loops.specs.Cyclic.{PrimitiveCyclic, Cyclic, primitive-cyclic}
+use Rattle.loops.specs.Detect.{Reported}
 use Rattle.loops.proofs.Theorem.{Passes, reported-loop, complete}
 
 module _ {F : Type 0} (dec : Discrete F) (next : List F → Option (List F)) (laws : Successor next) (q : List F) where

@@ -1,14 +1,13 @@
 -- What every state of the detector holds (document 001, Lemmas 10 and 11, and the proof of Theorem 1).
-use Rattle.std.specs.Prelude.{ℕ, zero, suc, ◌≤◌, ◌<◌, Bool, true, false, ◌||◌, ◌≡◌, refl, List, [], ◌∷◌, ltb, length}
+use Rattle.std.specs.Prelude.{ℕ, suc, ◌≤◌, ◌<◌, Bool, true, false, ◌||◌, ◌≡◌, refl, List, [], ◌∷◌, ltb, length}
 use Rattle.std.proofs.Math.Decide.{dec_lt}
-use Rattle.std.proofs.Common.{arith, sym, ap, subst, ◌∙◌, ltb-true, ltb-false}
+use Rattle.std.proofs.Common.{arith, sym, ap, ◌∙◌, ltb-true, ltb-false}
 use Rattle.std.proofs.lemmas.Bool.{false≢true}
-use mathlib.Core.HLevel.{Discrete}
 use Rattle.std.proofs.Math.Option.{Option, none, some, none-ne-some}
-use Rattle.loops.specs.Path.{Successor, path, path-zero, path-on}
+use Rattle.loops.specs.Path.{Successor, path, path-zero}
 use Rattle.loops.specs.Schedule.{scheduled}
 use Rattle.loops.proofs.ScheduleLaws.{scheduled-zero}
-use Rattle.loops.specs.Detect.{State, start, leftmost, saves, move, Detected, detect, Judged, judged, detect-zero, detect-back}
+use Rattle.loops.specs.Detect.{State, start, leftmost, saves, move, Detected}
 
 -- no step strictly between j and t is scheduled
 abbrev pub Quiet : ℕ → ℕ → Type 0

@@ -1,5 +1,5 @@
 -- What the steps are at which the detector saves in any case: zero and the powers of two, and where the next one is.
-use Rattle.std.specs.Prelude.{ℕ, zero, suc, ◌+◌, ◌-◌, ◌*◌, ◌/◌, ◌^◌, ◌≤◌, ◌<◌, Bool, true, false, ◌⊎◌, ◌≡◌, refl, leb}
+use Rattle.std.specs.Prelude.{ℕ, zero, suc, ◌+◌, ◌-◌, ◌*◌, ◌/◌, ◌^◌, ◌≤◌, ◌<◌, true, false, ◌⊎◌, ◌≡◌, refl}
 use Rattle.std.proofs.Math.Nat.{two-pow-succ}
 use Rattle.std.proofs.Common.{one-mul, add-zero, arith, inl, inr, sym, ap, ◌∙◌, pow_pos, le-leb}
 use Rattle.std.proofs.Math.Decide.{dec_lt}

@@ -1,12 +1,12 @@
 -- What a reported loop means, and that every cyclic loop is reported in time (document 001, Lemma 12 and Theorem 1; document 02, C-23).
-use Rattle.std.specs.Prelude.{ℕ, zero, suc, ◌+◌, ◌-◌, ◌*◌, ◌≤◌, ◌<◌, max, true, ◌↔◌, ◌⊎◌, ◌≡◌, refl, List, [], ◌∷◌, ◌++◌, length}
+use Rattle.std.specs.Prelude.{ℕ, zero, suc, ◌+◌, ◌-◌, ◌*◌, ◌≤◌, ◌<◌, max, true, ◌⊎◌, ◌≡◌, refl, List, [], ◌∷◌, ◌++◌, length}
 use Rattle.std.proofs.Math.Decide.{dec_lt}
 use Rattle.std.proofs.Common.{arith, inl, inr, sym, ap, subst, ◌∙◌}
 use Rattle.std.proofs.lemmas.Bool.{false≢true}
 use mathlib.Core.HLevel.{Discrete}
 use Rattle.std.proofs.Math.Option.{Option, none, some, none-ne-some}
 use Rattle.loops.specs.Path.{Successor, path, Goes, path-sum, path-on, carry, carried, alone}
-use Rattle.loops.specs.Cyclic.{CyclicFormula, PrimitiveCyclic, Cyclic, primitive-cyclic, formula-cyclic, cyclic-on, endless, cyclic-grows, low-primitive, primitive-low}
+use Rattle.loops.specs.Cyclic.{CyclicFormula, PrimitiveCyclic, Cyclic, formula-cyclic, cyclic-on, endless, cyclic-grows, low-primitive, primitive-low}
 use Rattle.loops.specs.Schedule.{scheduled}
 use Rattle.loops.proofs.ScheduleLaws.{window}
 use Rattle.loops.specs.Detect.{State, Verdict, solved, loop, stuck, go_on, start, Detected, judge, detect, Reported, Judged, judged, detect-zero, detect-on, detect-back}

@@ -7,15 +7,14 @@ use Rattle.words.specs.Flat.{flat, flat-size}
 use Rattle.format.specs.Format as Format
 use Rattle.format.specs.Format.{terms_none, terms_var, terms_constant, terms_compound, formula, IsFormula, AreFormulas, GoodClause, GoodClauses, node_record, node_records, encode_record, encode, clause_records, book_records, encode_book}
 use Rattle.format.proofs.Numbering.{ordered}
-use Rattle.grammar.specs.Byte.{IsName}
 use Rattle.grammar.specs.Syntax.{Terms, none, variable_then, name_then}
-use Rattle.grammar.specs.Names.{Sort, Constant, Compound, Predicate, count, rule_spots, variables_after}
+use Rattle.grammar.specs.Names.{Constant, Compound, Predicate, count, rule_spots, variables_after}
 use Rattle.grammar.specs.Reading.{Small, SmallFormula, SmallFormulas, SmallRule, SmallRules}
 use Rattle.printing.proofs.SpacingLaws.{Right, RightFormula, RightFormulas, RightRules}
 use Rattle.printing.specs.Named.{Naming, variable_name, first_terms, later_terms, named_terms, named_formula, named_formulas, named_rule, named_rules}
 use Rattle.printing.specs.NamedLaws.{spots, first_count, terms-count, formulas_spotted}
 use Rattle.printing.specs.DigitLaws.{name-right}
-use Rattle.printing.specs.Renumbered.{Uses, book_nodes}
+use Rattle.printing.specs.Renumbered.{book_nodes}
 use Rattle.printing.proofs.RenumberLaws.{variables-low}
 use Rattle.printing.proofs.UseLaws.{uses-left, uses-right}
 use Rattle.printing.specs.Fit.{Fit, AllFit}

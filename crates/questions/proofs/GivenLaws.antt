@@ -1,20 +1,14 @@
 -- What a list gives is what it is read as.
-use Rattle.std.specs.Prelude.{ℕ, suc, ◌≤◌, ◌≡◌, refl, Bool, true, false, ◌&&◌, length, leb}
+use Rattle.std.specs.Prelude.{ℕ, ◌≡◌, true, length, leb}
 use Rattle.std.proofs.Math.Path.{sym as inv, ap}
-use Rattle.std.proofs.Common.{ap₂, ◌∙◌, true≢false, arith, leb-true, le-leb}
-use mathlib.Core.List.{List, [], ◌∷◌, ◌++◌, append-nil}
-use Rattle.terms.specs.When.{◌⇒◌∣◌}
-use Rattle.terms.specs.Cases.{cases}
-use Rattle.format.specs.Format.{Bytes}
-use Rattle.grammar.specs.Names.{Sort, Constant, Compound, Predicate, same_name, within, is_sort, entries, list_of}
-use Rattle.grammar.specs.NameLaws.{same_refl, same_true}
-use Rattle.grammar.specs.GrowLaws.{is-sort_self}
-use Rattle.grammar.specs.ListLaws.{list-one}
+use Rattle.std.proofs.Common.{◌∙◌, arith, le-leb}
+use mathlib.Core.List.{List}
+use Rattle.grammar.specs.Names.{Sort, Constant, Compound, Predicate, same_name, list_of}
+use Rattle.grammar.specs.NameLaws.{same_refl}
 use Rattle.grammar.specs.Query.{Given}
-use Rattle.namelist.specs.List.{Entry, ToEach, Along, Proper, Apart, IsList}
-use Rattle.namelist.specs.Bytes.{entries_of, is_list}
-use Rattle.namelist.specs.Meaning.{list-means, list_is, entries-are}
-use Rattle.namelist.specs.Table.{EachFit, NoneTwice, GoodTable, entries_on, table_entries, table-list}
+use Rattle.namelist.specs.List.{IsList}
+use Rattle.namelist.specs.Meaning.{list_is, entries-are}
+use Rattle.namelist.specs.Table.{table_entries, table-list}
 use Rattle.questions.specs.Given.{Gives, given_from, gives, names_of, names_table, lists-same}
 
 module _ (s : List ℕ) (g : Given) (h : Gives s g) where

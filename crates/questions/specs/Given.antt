@@ -1,20 +1,20 @@
 -- The names that a list gives, by their numbers; and whether bytes are such a list.
 use Rattle.std.specs.Prelude.{ℕ, suc, ◌≤◌, ◌≡◌, refl, Bool, true, false, ◌&&◌, length, leb}
 use Rattle.std.proofs.Math.Path.{sym as inv, ap}
-use Rattle.std.proofs.Common.{ap₂, ◌∙◌, true≢false, arith, leb-true, le-leb}
+use Rattle.std.proofs.Common.{ap₂, ◌∙◌, true≢false, leb-true}
 use mathlib.Core.List.{List, [], ◌∷◌, ◌++◌, append-nil}
 use Rattle.terms.specs.When.{◌⇒◌∣◌}
 use Rattle.terms.specs.Cases.{cases}
 use Rattle.format.specs.Format.{Bytes}
 use Rattle.grammar.specs.Names.{Sort, Constant, Compound, Predicate, same_name, within, is_sort, entries, list_of}
-use Rattle.grammar.specs.NameLaws.{same_refl, same_true}
+use Rattle.grammar.specs.NameLaws.{same_true}
 use Rattle.grammar.specs.GrowLaws.{is-sort_self}
 use Rattle.grammar.specs.ListLaws.{list-one}
 use Rattle.grammar.specs.Query.{Given}
-use Rattle.namelist.specs.List.{Entry, ToEach, Along, Proper, Apart, IsList}
+use Rattle.namelist.specs.List.{Entry, ToEach, Along, Proper, Apart}
 use Rattle.namelist.specs.Bytes.{entries_of, is_list}
-use Rattle.namelist.specs.Meaning.{list-means, list_is, entries-are}
-use Rattle.namelist.specs.Table.{EachFit, NoneTwice, GoodTable, entries_on, table_entries, table-list}
+use Rattle.namelist.specs.Meaning.{list-means}
+use Rattle.namelist.specs.Table.{EachFit, NoneTwice, GoodTable, entries_on, table_entries}
 
 -- "a list in C-13's form": as its reader writes it, numbers from 0 and none left out. So few that 4,096 more of a sort have numbers of two bytes.
 pub record Gives (s : List ℕ) (g : Given) : Type 0 where

@@ -6,12 +6,12 @@ use Rattle.terms.specs.Cases.{cases}
 use Rattle.grammar.specs.Token.{Token, name, variable, opening, closing, comma, arrow, stop}
 use Rattle.grammar.specs.Syntax.{Terms, none, Rule}
 use Rattle.grammar.specs.Names.{count, with_variable}
-use Rattle.grammar.specs.Reading.{Small, SmallFormulas, SmallRules}
-use Rattle.reading.specs.Part.{Done, none_yet, and_variable, and_name, Part, formulas, inside, Mode, between, expects, named, complete, State, state}
-use Rattle.reading.specs.Part.{terms_of, put, Taken, taken, wrong, variable_in, comma_may, arrow_may, behind, next, settle}
+use Rattle.grammar.specs.Reading.{Small}
+use Rattle.reading.specs.Part.{Done, none_yet, and_variable, and_name, Part, formulas, inside, Mode, between, expects, named, complete, state}
+use Rattle.reading.specs.Part.{terms_of, put, variable_in, comma_may, arrow_may, behind, next, settle}
 use Rattle.reading.specs.Reader.{nodes, variables, size, full, crowded, limit, long}
-use Rattle.reading.specs.SizeLaws.{done-nodes-of, done-variables-of, size_of, SmallDone, small_of, put-nodes, put-variables, rule-small}
-use Rattle.reading.specs.Limits.{Room, SmallPart, SmallMode, SmallState, SmallTaken}
+use Rattle.reading.specs.SizeLaws.{done-nodes-of, done-variables-of, size_of, small_of, put-nodes, put-variables, rule-small}
+use Rattle.reading.specs.Limits.{Room, SmallPart, SmallState, SmallTaken}
 
 -- What a token that passes the tests leaves room for
 

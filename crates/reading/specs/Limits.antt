@@ -1,7 +1,6 @@
 -- The sizes that the reader keeps to.
 use Rattle.std.specs.Prelude.{◌≤◌, List, length}
 use Rattle.grammar.specs.Syntax.{Rule}
-use Rattle.grammar.specs.Names.{count}
 use Rattle.grammar.specs.Reading.{SmallFormulas, SmallRules}
 use Rattle.reading.specs.Part.{Part, formulas, inside, Mode, between, expects, named, complete, State}
 use Rattle.reading.specs.Part.{Taken, taken, wrong}

@@ -16,7 +16,7 @@ use Rattle.terms.proofs.VariantLaws.{instances_number}
 use Rattle.terms.proofs.ApartLaws.{Joint, join}
 use Rattle.terms.proofs.UnifyLaws.{unify-sound, unify-complete}
 use Rattle.search.specs.Next.{Clause, Book, Goal, Clauses, Meets, First, NoneMeets, resolvent, Resolved, Next}
-use Rattle.search.specs.Step.{even, odd, Choice, later, meet, choice, resolve, stuck, to, move, next, goal_in, next_goal}
+use Rattle.search.specs.Step.{even, odd, Choice, later, meet, choice, resolve, stuck, to, move, goal_in}
 
 -- Names.
 

@@ -1,22 +1,11 @@
 -- `next` computes the next goal, and there is no other.
-use Rattle.std.specs.Prelude.{ℕ, zero, suc, ◌≡◌, refl, ◌↔◌, List, [], ◌∷◌, ◌++◌, map}
-use Rattle.std.proofs.Common.{sym as inv, ap, ap₂, ◌∙◌, subst, inl, inr, arith}
-use Rattle.std.proofs.Math.Option.{Option, none, some}
-use Rattle.std.proofs.lemmas.Simd.{map-map}
-use Rattle.std.proofs.lemmas.List.{map-append}
+use Rattle.std.specs.Prelude.{ℕ, ◌≡◌, ◌↔◌, [], ◌∷◌}
+use Rattle.std.proofs.Common.{arith}
+use Rattle.std.proofs.Math.Option.{none}
 use Rattle.terms.specs.Node.{Expr}
-use Rattle.terms.specs.Row.{Row, Every, Formulas, Atom, atom, Atoms}
-use Rattle.terms.specs.Subst.{In, InAny, Subst, Proper, apply, after, Unifies, MostGeneral}
-use Rattle.terms.specs.Rename.{rename, Apart}
-use Rattle.terms.specs.RowLaws.{every_append, every_map}
-use Rattle.terms.specs.SubstLaws.{apply-row, apply-on, apply-after, map_same, map_on}
-use Rattle.terms.specs.RenameLaws.{rename-row, apply-rename}
-use Rattle.terms.proofs.NumberLaws.{every-number}
-use Rattle.terms.proofs.VariantLaws.{instances_number}
-use Rattle.terms.proofs.ApartLaws.{Joint, join}
-use Rattle.terms.proofs.UnifyLaws.{unify-sound, unify-complete}
-use Rattle.search.specs.Next.{Clause, Book, Goal, Clauses, Meets, First, NoneMeets, resolvent, Resolved, Next}
-use Rattle.search.specs.Step.{even, odd, Choice, later, meet, choice, resolve, stuck, to, move, next, goal_in, next_goal}
+use Rattle.terms.specs.Row.{Row, Formulas}
+use Rattle.search.specs.Next.{Book, Goal, Clauses, NoneMeets, Next}
+use Rattle.search.specs.Step.{choice, stuck, to, next, next_goal}
 use Rattle.search.proofs.NextLaws.{choice-found, move-is-next, next-is-move, stuck-is-none, first-formulas, move-stuck, resolved-formulas}
 
 -- The theorems, for a book and a goal of formulas.

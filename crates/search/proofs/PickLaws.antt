@@ -1,18 +1,17 @@
 -- The pick and the apply call are what their relations say, and one after the other they are the single step.
-use Rattle.std.specs.Prelude.{ℕ, zero, suc, ◌+◌, ◌≤◌, ◌<◌, ◌≡◌, refl, ◌↔◌, Bool, true, false, [], ◌∷◌, eqb, ltb, length, get_or}
+use Rattle.std.specs.Prelude.{ℕ, zero, suc, ◌+◌, ◌<◌, ◌≡◌, refl, ◌↔◌, [], ◌∷◌, length}
 use Rattle.std.proofs.Common.{arith, sym as inv, ap, ◌∙◌, subst, lt-ltb, le-ltb}
 use Rattle.std.proofs.Math.Decide.{dec_lt}
 use Rattle.std.proofs.Math.Option.{Option, none, some, some-injective, none-ne-some}
 use Rattle.terms.specs.Node.{Expr}
 use Rattle.terms.specs.Row.{Formulas}
 use Rattle.terms.specs.Subst.{Subst}
-use Rattle.terms.specs.When.{◌⇒◌∣◌}
 use Rattle.terms.specs.Cases.{cases}
-use Rattle.search.specs.Next.{Clause, Book, Goal, Clauses, Meets, First, NoneMeets, Resolved, Next, clause_at}
-use Rattle.search.specs.Step.{even, odd, later, meet, Choice, choice, resolve, Step, solved, stuck, to, move, next, counted}
+use Rattle.search.specs.Next.{Clause, Book, Goal, Clauses, Meets, First, NoneMeets, Resolved, clause_at}
+use Rattle.search.specs.Step.{even, odd, later, meet, Choice, choice, resolve, stuck, to, move, next, counted}
 use Rattle.search.specs.Room.{fits}
-use Rattle.search.specs.Known.{Known, known?, stuck_code, stuck-known, stuck-unknown}
-use Rattle.search.specs.Single.{Single, not_taken, if_fits, single, step}
+use Rattle.search.specs.Known.{known?, stuck_code, stuck-known, stuck-unknown}
+use Rattle.search.specs.Single.{Single, if_fits, single, step}
 use Rattle.search.specs.Pick.{Pick, no_pick, picked, pick, Picks, chosen_25, applied, apply_by, Applies, absent_32, apart_33, full_24, taken_25, then, pick_and_apply}
 use Rattle.search.specs.Pick as Pick
 use Rattle.search.proofs.NextLaws.{even_odd, meets-by, carried, first_one, first-none}

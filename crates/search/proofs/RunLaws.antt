@@ -2,11 +2,11 @@
 use Prim.Native.Nat.{ℕ, zero, suc, ◌+◌, ◌≤◌, ◌<◌}
 use Rattle.std.proofs.Math.Decide.{dec_lt}
 use Rattle.std.proofs.Common.{arith, sym as inv, ap, ◌∙◌, subst, inl, inr, true≢false, eq-eqb, ne_eqb}
-use Rattle.std.specs.Prelude.{◌≡◌, refl, ◌↔◌, ◌⊎◌, Bool, true, false, eqb}
+use Rattle.std.specs.Prelude.{◌≡◌, refl, ◌⊎◌, Bool, true, false, eqb}
 use Rattle.std.proofs.Math.Option.{some, some-injective}
 use Rattle.terms.specs.Node.{Expr, same_expr}
 use Rattle.terms.specs.Cases.{cases}
-use Rattle.loops.specs.Detect.{State, start, Verdict, solved, loop, stuck, go_on, detect-zero, detect-on}
+use Rattle.loops.specs.Detect.{State, Verdict, solved, loop, stuck, go_on, detect-on}
 use Rattle.loops.proofs.EachState.{detect-sound}
 use Rattle.loops.proofs.Theorem.{went_on}
 use Rattle.search.specs.Next.{Book, Goal}
@@ -14,7 +14,7 @@ use Rattle.search.specs.Step.{next_goal}
 use Rattle.search.specs.StepLaws.{lawful}
 use Rattle.search.specs.Room.{fits}
 use Rattle.search.specs.Known.{knows?, stuck_code, stuck-known, stuck-unknown}
-use Rattle.search.specs.Run.{Closed, close, settle, verdict, run_from, run, goal_at, state_at, Roomy, Closes, code_20, code_21, code_22, code_23, code_24, code_26, Runs}
+use Rattle.search.specs.Run.{Closed, close, settle, verdict, run_from, goal_at, state_at, Roomy, Closes, code_20, code_21, code_22, code_23, code_24, code_26, Runs}
 
 -- the code and the span by the verdict, the code where there is no next goal, and whether the budget is used up
 abbrev code_of : ℕ → Bool → Verdict Expr → ℕ

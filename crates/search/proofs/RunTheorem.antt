@@ -1,20 +1,12 @@
 -- The run is what `Runs` says, and nothing else is.
-use Prim.Native.Nat.{ℕ, zero, suc, ◌+◌, ◌≤◌, ◌<◌}
-use Rattle.std.proofs.Math.Decide.{dec_lt}
-use Rattle.std.proofs.Common.{arith, sym as inv, ap, ◌∙◌, subst, inl, inr, true≢false, eq-eqb, ne_eqb}
-use Rattle.std.specs.Prelude.{◌≡◌, refl, ◌↔◌, ◌⊎◌, Bool, true, false, eqb}
-use Rattle.std.proofs.Math.Option.{some, some-injective}
-use Rattle.terms.specs.Node.{Expr, same_expr}
-use Rattle.terms.specs.Cases.{cases}
-use Rattle.loops.specs.Detect.{State, start, Verdict, solved, loop, stuck, go_on, detect-zero, detect-on}
-use Rattle.loops.proofs.EachState.{detect-sound}
-use Rattle.loops.proofs.Theorem.{went_on}
+use Prim.Native.Nat.{ℕ}
+use Rattle.std.proofs.Common.{arith, subst}
+use Rattle.std.specs.Prelude.{◌≡◌, ◌↔◌}
+use Rattle.terms.specs.Node.{same_expr}
+use Rattle.loops.specs.Detect.{start, detect-zero}
 use Rattle.search.specs.Next.{Book, Goal}
 use Rattle.search.specs.Step.{next_goal}
-use Rattle.search.specs.StepLaws.{lawful}
-use Rattle.search.specs.Room.{fits}
-use Rattle.search.specs.Known.{knows?, stuck_code, stuck-known, stuck-unknown}
-use Rattle.search.specs.Run.{Closed, close, settle, verdict, run_from, run, goal_at, state_at, Roomy, Closes, code_20, code_21, code_22, code_23, code_24, code_26, Runs}
+use Rattle.search.specs.Run.{Closed, run, Runs}
 use Rattle.search.proofs.RunLaws.{run-from-runs, runs-one}
 
 module _ (P : Book) (budget : ℕ) (q : Goal) where

@@ -1,5 +1,5 @@
 -- The run is what document 01's "Detection states" tell, and nothing else.
-use Rattle.std.specs.Prelude.{ℕ, zero, suc, ◌-◌, ◌≤◌, ◌≡◌, refl, ◌↔◌, true, false}
+use Rattle.std.specs.Prelude.{ℕ, zero, suc, ◌-◌, ◌≤◌, ◌≡◌, refl, ◌↔◌, true}
 use Rattle.std.proofs.Common.{arith, sym as inv, ap, ◌∙◌, subst, true≢false}
 use Rattle.std.proofs.Math.Option.{some, none}
 use mathlib.Core.List.{[], ◌∷◌, nil≢cons}

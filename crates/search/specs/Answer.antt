@@ -11,7 +11,7 @@ use Rattle.search.specs.Next.{Clause, Book, Goal, First, resolvent}
 use Rattle.search.specs.Step.{next_goal}
 use Rattle.search.specs.Room.{nodes, fits}
 use Rattle.search.specs.Known.{stuck_code}
-use Rattle.search.specs.Run.{Closed, close, verdict, goal_at, state_at, Roomy, Closes}
+use Rattle.search.specs.Run.{Closed, verdict, goal_at, state_at, Roomy, Closes}
 
 -- The answer after t steps, by the relation.
 

@@ -1,6 +1,6 @@
 -- Codes 22 and 26 (document 02, C-12): together they are document 01's 22, and a predicate that is not known meets no head.
 use Rattle.std.specs.Prelude.{ℕ, ◌≡◌, refl, ◌⊎◌, ◌↔◌}
-use Rattle.std.proofs.Common.{sym as inv, ap, ◌∙◌, inl, inr}
+use Rattle.std.proofs.Common.{sym as inv, ap, inl, inr}
 use Rattle.std.proofs.Math.Option.{some}
 use mathlib.Core.List.{[], ◌∷◌, head-eq_of_cons-eq}
 use Rattle.terms.specs.Node.{Symbol, predicate, sym, Expr}

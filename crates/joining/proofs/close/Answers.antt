@@ -1,10 +1,10 @@
-use Prim.Native.Nat.{ℕ, ◌+◌, ◌-◌, ◌≤◌, ◌<◌}
+use Prim.Native.Nat.{ℕ, ◌+◌, ◌<◌}
 use native.Mathlib.Omega.{arith}
 use mathlib.Core.Path.{◌≡◌, refl, sym, subst, ◌∙◌}
-use mathlib.Core.List.{List, [], ◌∷◌}
+use mathlib.Core.List.{List, []}
 use lib.ListN.{length, get_or}
 use Rattle.words.specs.Word.{arity_of}
-use Rattle.words.specs.Columns.{column-length, Only, same, after, CELLS, END, UP, PICK, LEFT, RIGHT}
+use Rattle.words.specs.Columns.{column-length, same, after, END, LEFT, RIGHT}
 use Rattle.positions.specs.Words.{Ends}
 use Rattle.positions.specs.Steps.{state, Args, Step, Fails}
 use Rattle.positions.specs.Tables.{ends, ups, picks, state_in}
@@ -55,5 +55,8 @@ loop-head-preserved c = let r = ((let here : let a = c.args in
     Progress a.words.now (ends a.words.now a.rows.now) (ups a.words.now a.rows.now) (picks a.words.now a.rows.now) a.x a.y c.loop-head.head (state_in a.words.now c.loop-head.rows c.loop-head.tail) = c.loop-head.invariant.1 _ _ _ (sym (c.join-tail.ensures.1.kept END _ refl)) (begun _ _ _ _ _ _ _ _ _ c.requires.1 (c.join-tail.ensures.0.step c.if-tail-eq-CLASH.false)) in here)).ready in let h : c.loop-head.head < length c.args.words.now = omega (arith, r.count, c.loop-head-test.true) in let t = c.spread-tail.ensures.0.step c.if-tail-eq-CLASH-2.false in (omega (arith, t.grows, c.loop-head-test.true), (λ e u p q g. turned-in _ _ _ _ _ _ _ _ _ _ _ _ _ (c.cell-a.ensures.0 _ h) (c.cell-b.ensures.0 _ h) c.loop-head-test.true (c.loop-head.invariant.1 e u p q g) (q ∙ sym (c.loop-head.invariant.3.kept END (length c.args.words.now) refl)) t), search rules, after c.loop-head.invariant.3 c.spread-tail.ensures.1)
 
 pub returns : goal.returns
-returns c = (ended _ _ _ _ _ _ c.loop-head.head _ _ _ _ c.loop-head.tail c.requires.1 c.loop-head-test.false ((let here : let a = c.args in
-    Progress a.words.now (ends a.words.now a.rows.now) (ups a.words.now a.rows.now) (picks a.words.now a.rows.now) a.x a.y c.loop-head.head (state_in a.words.now c.loop-head.rows c.loop-head.tail) = c.loop-head.invariant.1 _ _ _ (sym (c.join-tail.ensures.1.kept END _ refl)) (begun _ _ _ _ _ _ _ _ _ c.requires.1 (c.join-tail.ensures.0.step c.if-tail-eq-CLASH.false)) in here)), after c.join-tail.ensures.1 c.loop-head.invariant.3)
+returns c = (
+  ended _ _ _ _ _ _ c.loop-head.head _ _ _ _ c.loop-head.tail c.requires.1 c.loop-head-test.false ((let here : let a = c.args in
+      Progress a.words.now (ends a.words.now a.rows.now) (ups a.words.now a.rows.now) (picks a.words.now a.rows.now) a.x a.y c.loop-head.head (state_in a.words.now c.loop-head.rows c.loop-head.tail) = c.loop-head.invariant.1 _ _ _ (sym (c.join-tail.ensures.1.kept END _ refl)) (begun _ _ _ _ _ _ _ _ _ c.requires.1 (c.join-tail.ensures.0.step c.if-tail-eq-CLASH.false)) in here)),
+  after c.join-tail.ensures.1 c.loop-head.invariant.3,
+)

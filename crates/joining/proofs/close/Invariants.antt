@@ -1,15 +1,10 @@
-use Prim.Native.Nat.{ℕ, ◌+◌, ◌-◌, ◌≤◌, ◌<◌}
-use native.Mathlib.Omega.{arith}
-use mathlib.Core.Path.{◌≡◌, refl, sym, subst, ◌∙◌}
+use Prim.Native.Nat.{ℕ, ◌-◌, ◌≤◌}
+use mathlib.Core.Path.{◌≡◌}
 use mathlib.Core.List.{List, [], ◌∷◌}
-use lib.ListN.{length, get_or}
-use Rattle.words.specs.Word.{arity_of}
-use Rattle.words.specs.Columns.{column-length, Only, same, after, CELLS, END, UP, PICK, LEFT, RIGHT}
-use Rattle.positions.specs.Words.{Ends}
-use Rattle.positions.specs.Steps.{state, Args, Step, Fails}
-use Rattle.positions.specs.Tables.{ends, ups, picks, state_in}
-use Rattle.joining.proofs.Progress.{Progress, waiting, begun, next_in, turned, refuted, ended, never}
-use borrow.Author.Rules.{rules}
+use lib.ListN.{length}
+use Rattle.words.specs.Columns.{Only, CELLS, UP, PICK, LEFT, RIGHT}
+use Rattle.positions.specs.Tables.{ends, state_in}
+use Rattle.joining.proofs.Progress.{Progress}
 use Rattle.joining.proofs.close.Given as goal
 
 abbrev pub invariant-loop-head : goal.invariant-loop-head

@@ -1,9 +1,9 @@
-use Prim.Native.Nat.{ℕ, ◌-◌, ◌<◌, ◌≤◌}
+use Prim.Native.Nat.{ℕ, ◌<◌}
 use native.Mathlib.Omega.{arith}
 use mathlib.Core.Path.{◌≡◌, ap, ◌∙◌}
-use mathlib.Core.List.{List, [], ◌∷◌}
-use lib.ListN.{length, get_or}
-use Rattle.words.specs.Columns.{column, column-length, Only, Put, same, after, CELLS, UP}
+use mathlib.Core.List.{List}
+use lib.ListN.{get_or}
+use Rattle.words.specs.Columns.{column, column-length, Put, same, after, UP}
 use Rattle.positions.specs.Steps.{Flat}
 use Rattle.joining.proofs.Flats.{flat_refl, flat_trans, halved-any}
 use borrow.Author.Rules.{rules}

@@ -1,12 +1,9 @@
-use Prim.Native.Nat.{ℕ, ◌-◌, ◌<◌, ◌≤◌}
-use native.Mathlib.Omega.{arith}
-use mathlib.Core.Path.{◌≡◌, ap, ◌∙◌}
-use mathlib.Core.List.{List, [], ◌∷◌}
-use lib.ListN.{length, get_or}
-use Rattle.words.specs.Columns.{column, column-length, Only, Put, same, after, CELLS, UP}
+use Prim.Native.Nat.{◌-◌, ◌≤◌}
+use mathlib.Core.Path.{◌≡◌}
+use mathlib.Core.List.{[], ◌∷◌}
+use lib.ListN.{length}
+use Rattle.words.specs.Columns.{column, Only, CELLS, UP}
 use Rattle.positions.specs.Steps.{Flat}
-use Rattle.joining.proofs.Flats.{flat_refl, flat_trans, halved-any}
-use borrow.Author.Rules.{rules}
 use Rattle.joining.proofs.flatten.Given as goal
 
 abbrev pub invariant-loop-p : goal.invariant-loop-p

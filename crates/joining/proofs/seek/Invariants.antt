@@ -1,14 +1,10 @@
-use Prim.Native.Nat.{ℕ, ◌<◌, ◌≤◌}
-use native.Mathlib.Omega.{arith}
-use mathlib.Core.Path.{◌≡◌, refl, sym, ap, ◌∙◌}
-use mathlib.Core.List.{List, [], ◌∷◌}
+use Prim.Native.Nat.{◌<◌}
+use mathlib.Core.Path.{◌≡◌}
+use mathlib.Core.List.{[], ◌∷◌}
 use lib.ListN.{length, get_or}
-use Rattle.words.specs.Columns.{column, column-length, Only, Put, same, after, CELLS, UP}
+use Rattle.words.specs.Columns.{column, Only, CELLS, UP}
 use Rattle.positions.specs.Classes.{root}
 use Rattle.positions.specs.Steps.{Flat}
-use Rattle.positions.specs.RootLaws.{root_self, root-step}
-use Rattle.joining.proofs.Flats.{flat_refl, flat_trans, halved}
-use borrow.Author.Rules.{rules}
 use Rattle.joining.proofs.seek.Given as goal
 
 abbrev pub invariant-loop-q : goal.invariant-loop-q

@@ -1,17 +1,12 @@
-use Prim.Native.Nat.{ℕ, ◌+◌, ◌-◌, ◌<◌, ◌≤◌}
-use native.Mathlib.Omega.{arith}
-use mathlib.Core.Path.{◌≡◌, refl, sym, ap, ◌∙◌}
-use mathlib.Core.List.{List, [], ◌∷◌}
+use Prim.Native.Nat.{◌-◌, ◌≤◌}
+use mathlib.Core.Path.{◌≡◌}
+use mathlib.Core.List.{[], ◌∷◌}
 use lib.ListN.{length, get_or}
-use borrow.Author.Count.{below_more}
 use Rattle.words.specs.Word.{arity_of}
-use Rattle.words.specs.Columns.{Only, same, after, CELLS, END, UP, PICK, LEFT, RIGHT}
-use Rattle.positions.specs.Words.{child, Ends}
-use Rattle.positions.specs.Steps.{State, state, Args, Step, Fails, Outcome}
+use Rattle.words.specs.Columns.{Only, CELLS, UP, PICK, LEFT, RIGHT}
+use Rattle.positions.specs.Words.{child}
+use Rattle.positions.specs.Steps.{Args, Step}
 use Rattle.positions.specs.Tables.{ends, state_in}
-use Rattle.joining.proofs.Stepping.{restated, followed, idle}
-use Rattle.positions.specs.TrialLaws.{next-argument}
-use borrow.Author.Rules.{rules}
 use Rattle.joining.proofs.spread.Given as goal
 
 abbrev pub invariant-loop-i : goal.invariant-loop-i

@@ -1,10 +1,10 @@
 use Prim.Native.Nat.{ℕ, ◌+◌, ◌%◌, ◌<◌, ◌≤◌}
 use native.Mathlib.Omega.{arith}
-use mathlib.Core.Path.{◌≡◌, refl, sym, ap, ◌∙◌}
+use mathlib.Core.Path.{◌≡◌, refl, ◌∙◌}
 use mathlib.Core.List.{List}
 use lib.ListN.{length, get_or, set, length-set}
 use lib.Seq.{drop-set-lt}
-use Rattle.words.specs.Word.{kind_of, Fit}
+use Rattle.words.specs.Word.{kind_of}
 use Rattle.words.specs.Columns.{CELLS}
 use Rattle.numbering.specs.Naming.{NAMES, table, back, spare, Listed, NamedAt}
 use Rattle.numbering.proofs.Cells.{table-length, back-length, table-stored, back-stored}

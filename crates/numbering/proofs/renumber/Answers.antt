@@ -1,10 +1,7 @@
-use Prim.Native.Nat.{◌-◌, ◌≤◌}
 use native.Mathlib.Omega.{arith}
-use mathlib.Core.Path.{◌≡◌, refl, ◌∙◌}
-use lib.ListN.{length}
-use Rattle.words.specs.Columns.{CELLS}
+use mathlib.Core.Path.{refl}
 use Rattle.numbering.specs.Naming.{table, back}
-use Rattle.numbering.proofs.Names.{Upto, upto-start, upto-more, upto-end}
+use Rattle.numbering.proofs.Names.{upto-start, upto-more, upto-end}
 use borrow.Author.Rules.{rules}
 use Rattle.numbering.proofs.renumber.Goals as goal
 

@@ -1,11 +1,9 @@
 use Prim.Native.Nat.{◌-◌, ◌≤◌}
-use native.Mathlib.Omega.{arith}
-use mathlib.Core.Path.{◌≡◌, refl, ◌∙◌}
+use mathlib.Core.Path.{◌≡◌}
 use lib.ListN.{length}
 use Rattle.words.specs.Columns.{CELLS}
 use Rattle.numbering.specs.Naming.{table, back}
-use Rattle.numbering.proofs.Names.{Upto, upto-start, upto-more, upto-end}
-use borrow.Author.Rules.{rules}
+use Rattle.numbering.proofs.Names.{Upto}
 use Rattle.numbering.proofs.renumber.Given as goal
 
 abbrev pub invariant-loop-i : goal.invariant-loop-i

@@ -1,9 +1,8 @@
-use Prim.Native.Nat.{ℕ, ◌<◌}
+use Prim.Native.Nat.{ℕ}
 use native.Mathlib.Omega.{arith}
 use mathlib.Core.Path.{◌≡◌, refl, sym, ◌∙◌}
 use mathlib.Core.List.{List}
 use lib.ListN.{get_or}
-use Rattle.words.specs.Columns.{column, UP}
 use Rattle.positions.specs.Classes.{root, Down}
 use Rattle.positions.specs.RootLaws.{root_self, root-step}
 use borrow.Author.Rules.{rules}

@@ -2,7 +2,6 @@ use native.Mathlib.Omega.{arith}
 use mathlib.Core.Path.{sym}
 use lib.ListN.{get_or-eq_default}
 use Rattle.words.specs.Columns.{column, column-length, ROWS, FIRST}
-use borrow.Author.Rules.{rules}
 use Rattle.positions.proofs.reading.first_of.Goals as goal
 
 pub returns-then-v-lt4352 : goal.returns-then-v-lt4352

@@ -2,10 +2,10 @@ use Prim.Native.Nat.{ℕ, ◌+◌, ◌-◌, ◌<◌, ◌≤◌}
 use native.Mathlib.Omega.{arith}
 use native.Mathlib.Decide.{ℕ_discrete}
 use mathlib.Core.Path.{◌≡◌, ap, ◌∙◌}
-use mathlib.Core.List.{List, [], ◌∷◌}
+use mathlib.Core.List.{List}
 use lib.ListN.{length, get_or, set}
 use Rattle.words.specs.Word.{arity_of}
-use Rattle.words.specs.Columns.{column, column-length, Only, Put, same, after, CELLS, END}
+use Rattle.words.specs.Columns.{column-length, Put, same, after, END}
 use Rattle.positions.specs.Words.{walk_of, Whole, Ended}
 use Rattle.positions.specs.Tables.{ends}
 use Rattle.positions.proofs.Rows.{ended-other, ended_here, some-term, args_row, walk_inside, walk-within}

@@ -1,11 +1,5 @@
-use Prim.Native.Nat.{◌-◌, ◌≤◌}
 use native.Mathlib.Omega.{arith}
-use mathlib.Core.Path.{◌≡◌}
-use mathlib.Core.List.{[], ◌∷◌}
-use lib.ListN.{length}
-use Rattle.words.specs.Columns.{Only, same, after, CELLS, UP, PICK, FIRST}
-use Rattle.positions.specs.Starting.{Slots}
-use Rattle.positions.specs.Tables.{ups, picks, firsts}
+use Rattle.words.specs.Columns.{same, after}
 use borrow.Author.Rules.{rules}
 use Rattle.positions.proofs.starting.start.Goals as goal
 

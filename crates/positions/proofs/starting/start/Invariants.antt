@@ -1,12 +1,10 @@
 use Prim.Native.Nat.{◌-◌, ◌≤◌}
-use native.Mathlib.Omega.{arith}
 use mathlib.Core.Path.{◌≡◌}
 use mathlib.Core.List.{[], ◌∷◌}
 use lib.ListN.{length}
-use Rattle.words.specs.Columns.{Only, same, after, CELLS, UP, PICK, FIRST}
+use Rattle.words.specs.Columns.{Only, CELLS, UP, PICK, FIRST}
 use Rattle.positions.specs.Starting.{Slots}
 use Rattle.positions.specs.Tables.{ups, picks, firsts}
-use borrow.Author.Rules.{rules}
 use Rattle.positions.proofs.starting.start.Given as goal
 
 abbrev pub invariant-loop-p : goal.invariant-loop-p

@@ -1,11 +1,7 @@
-use Prim.Native.Nat.{◌-◌, ◌<◌, ◌≤◌}
-use native.Mathlib.Omega.{arith}
-use native.Mathlib.Numerals.{add-one}
-use mathlib.Core.Path.{◌≡◌, ap, ◌∙◌}
-use lib.ListN.{get_or}
+use Prim.Native.Nat.{◌-◌, ◌≤◌}
+use mathlib.Core.Path.{◌≡◌}
 use Rattle.words.specs.Columns.{column, END}
 use Rattle.positions.specs.Words.{walk_of}
-use borrow.Author.Rules.{rules}
 use Rattle.positions.proofs.starting.walk.Given as goal
 
 abbrev pub invariant-loop-i : goal.invariant-loop-i
