@@ -1,6 +1,6 @@
 // A circle (code 21): one turn of it, each goal's leftmost formula with the rule that is used on it.
-use crate::areas::goal_area;
 use crate::goals::{say_leftmost, say_rule};
+use crate::lent_areas::goal_area;
 use crate::out::{number, say, steps};
 use crate::text::part;
 use picker::pick;

@@ -1,5 +1,5 @@
 // Goals and rules as text, by the names of the rules.
-use crate::areas::large_area;
+use crate::lent_areas::large_area;
 use crate::nearest::nearest;
 use crate::out::{number, say};
 use crate::text::{commas, next_of, nth_line, part, term_end, word_end};

@@ -4,23 +4,25 @@
 
 ghost use Rattle.std.specs.Prelude.{◌≤◌, length};
 
-mod answers;
-mod areas;
 mod circle;
 mod goals;
+mod lent_areas;
 mod nearest;
 mod out;
 mod refusal;
+mod telling;
 mod text;
+mod typed_words;
 mod values;
-mod words;
 
-use crate::answers::{Wanted, answer};
-use crate::areas::{book_area, goal_area, large_area, list_area, names_area, text_area, word_area};
+use crate::lent_areas::{
+    book_area, goal_area, large_area, list_area, names_area, text_area, word_area,
+};
 use crate::out::say;
 use crate::refusal::refused;
+use crate::telling::{Wanted, answer};
 use crate::text::part;
-use crate::words::{Words, word};
+use crate::typed_words::{Words, word};
 use printer::print_book;
 use queries::read_query;
 use std::fs::File;
@@ -200,8 +202,8 @@ fn with_file(rt: &HostRuntime, path: &[u8], w: Words) -> io::Result<()> {
 }
 
 fn main(rt: HostRuntime) -> io::Result<()> {
-    let w = words::read(&rt);
-    if !words::complete(&rt, w)? {
+    let w = typed_words::read(&rt);
+    if !typed_words::complete(&rt, w)? {
         return Ok(());
     }
     let mut path = word_area();

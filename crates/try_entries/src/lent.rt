@@ -75,7 +75,7 @@ fn asked(
     ensures { result ≡ true }
 {
     let n = least(length, both.len());
-    reading::query(rt, &both[0..n], book, &both[n..], area, answer)
+    text_entries::query(rt, &both[0..n], book, &both[n..], area, answer)
 }
 
 fn call(
@@ -98,16 +98,16 @@ fn call(
         7 => entries::apply(rt, book, query, number, area),
         8 => entries::pick_for_c(rt, book, query),
         9 => entries::apply_for_c(rt, book, query, number, area),
-        10 => flat::check_book(rt, book),
-        11 => flat::check_query(rt, book, query),
-        12 => flat::step(rt, book, query, area),
-        13 => flat::run(rt, book, query, number, area, answer),
-        14 => flat::book_for_c(rt, book),
-        15 => flat::query_for_c(rt, book, query),
-        16 => flat::step_for_c(rt, book, query, area),
-        17 => flat::run_for_c(rt, book, query, number, area, answer),
+        10 => flat_entries::check_book(rt, book),
+        11 => flat_entries::check_query(rt, book, query),
+        12 => flat_entries::step(rt, book, query, area),
+        13 => flat_entries::run(rt, book, query, number, area, answer),
+        14 => flat_entries::book_for_c(rt, book),
+        15 => flat_entries::query_for_c(rt, book, query),
+        16 => flat_entries::step_for_c(rt, book, query, area),
+        17 => flat_entries::run_for_c(rt, book, query, number, area, answer),
         18 => print::book(rt, book, query, area),
-        21 => reading::rules(rt, book, area, answer),
+        21 => text_entries::rules(rt, book, area, answer),
         22 => asked(rt, book, number as usize, query, area, answer),
         _ => with_names(rt, entry, book, number as usize, query, area),
     }

@@ -9,12 +9,12 @@
 ghost use Rattle.std.specs.Prelude.{◌≤◌, length};
 
 mod entries;
-mod flat;
+mod flat_entries;
 mod lent;
 mod line;
 mod number;
 mod print;
-mod reading;
+mod text_entries;
 
 use std::io;
 use std::io::Read;

@@ -1,7 +1,7 @@
 // What a run answers, in words.
-use crate::areas::{goal_area, large_area};
 use crate::circle::{Circle, say_circle};
 use crate::goals::{say_leftmost, say_rule, say_unknown};
+use crate::lent_areas::{goal_area, large_area};
 use crate::out::{number, say, steps, two_digits};
 use crate::text::part;
 use crate::values::values;

@@ -1,7 +1,7 @@
 // The words of the command line.
-use crate::answers::Wanted;
-use crate::areas::word_area;
+use crate::lent_areas::word_area;
 use crate::out::say;
+use crate::telling::Wanted;
 use crate::text::{byte, digit, is_digit, part};
 use std::env::{Env, FillError};
 use std::io;
