@@ -1,5 +1,5 @@
 /* Pitxargole for C firmware: the run with its answer (document 01; document 02, C-11), and the single step in two, pick and apply (C-16). Link with the archive that
-   `rt staticlib engine` writes for x86-64, or `ports/build` for another processor. */
+   `ports/module engine` makes for x86-64, or `ports/build` for another processor. */
 #ifndef PITXARGOLE_H
 #define PITXARGOLE_H
 

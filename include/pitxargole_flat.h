@@ -1,5 +1,5 @@
-/* Pitxargole for C firmware, the flat profile (document 02, C-20): books and queries of constants and variables only. Link with the archive that `rt staticlib profile`
-   writes for x86-64, or `ports/build` for another processor, together with the engine's, which has the functions for the parts of a number.
+/* Pitxargole for C firmware, the flat profile (document 02, C-20): books and queries of constants and variables only. Link with the archive that `ports/module profile`
+   makes for x86-64, or `ports/build` for another processor, together with the engine's, which has the functions for the parts of a number.
 
    In this profile more is promised: without limits of budget and room a run always says SOLVED, STUCK, UNKNOWN or LOOP. So STEPS says that more steps would have helped, and how many
    that would be no count of predicates and constants tells: they can double with each rule. */

@@ -1,4 +1,4 @@
-/* Pitxargole for C firmware, books and goals as text (document 02, C-13 and C-14). Link with the archive that `rt staticlib office` writes for x86-64, or `ports/build` for another
+/* Pitxargole for C firmware, books and goals as text (document 02, C-13 and C-14). Link with the archive that `ports/module office` makes for x86-64, or `ports/build` for another
    processor, together with the engine's, which has the functions for the parts of a number.
 
    A name list says what symbols are called, an entry for each: record kind (2 a constant, 3 a compound term, 4 a predicate), number in two bytes, the higher first, length of the name in one byte, the
