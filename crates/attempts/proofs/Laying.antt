@@ -25,8 +25,10 @@ use Rattle.heap.specs.HeapLaws.{row_inside}
 use Rattle.matching.specs.Meeting.{Equal}
 use Rattle.matching.specs.Unifying.{More}
 use Rattle.trials.proofs.Heaps.{in_rows, piece, piece-whole}
-use Rattle.paths.specs.Binding.{newly, newly-general, newly-meant}
-use Rattle.paths.specs.Naming.{α, stood, near}
+use Rattle.paths.specs.Binding.{newly}
+use Rattle.paths.proofs.Binding.{newly-general, newly-meant}
+use Rattle.paths.specs.Naming.{α, stood}
+use Rattle.paths.proofs.Naming.{near}
 use Rattle.heapgoals.specs.Holding.{used, Holds}
 use Rattle.heapgoals.specs.HoldLaws.{held-row, first_meant, rest_meant, answer_meant, held_all, held_low}
 use Rattle.heapgoals.specs.declared.Standing.{Standing}

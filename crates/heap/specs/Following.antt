@@ -49,7 +49,7 @@ follow_symbol r e high = record { row = r; stops = λ k. absurd (omega (arith, e
 
 -- A variable's word is reached, with its number and what it is bound to.
 module _ {heap cells : List ℕ} (made : Made heap cells) {p q : ℕ} (r : SameRow heap cells p q) {u i : ℕ} (e : u ≡ get_or heap q 0) (low : u < 33554432) (number : i ≡ u % 65536) where
-  kind : kind_of (get_or heap q 0) ≡ 1
+  pub kind : kind_of (get_or heap q 0) ≡ 1
   kind = omega (arith, e, low, (made.fits q r.inside).valid.low)
 
   same_number : i ≡ get_or heap q 0 % 65536
@@ -66,11 +66,8 @@ module _ {heap cells : List ℕ} (made : Made heap cells) {p q : ℕ} (r : SameR
     follow_free z = record { row = r; stops = λ k. there ∙ z }
 
     module _ (n : b ≡ 0 → ⊥) where
-      on : bound cells (get_or heap q 0 % 65536) ≡ suc (b - 1)
+      pub on : bound cells (get_or heap q 0 % 65536) ≡ suc (b - 1)
       on = omega (arith, there, n)
 
       pub follow_on : SameRow heap cells p (b - 1)
       follow_on = same-bound made r kind (b - 1) on
-
-      pub follow_less : rank heap (b - 1) < rank heap q
-      follow_less = rank_falls made q (b - 1) kind on

@@ -3,18 +3,10 @@
 -- most general unifier (TrialLaws); a head made equal to a formula by its own variables, and by all (Heads, HeadLaws, FitLaws),
 -- and what is bound for it weighed (Fitting, HangLaws).
 pub mod Meeting
-pub mod MeetLaws
 pub mod Pairs
-pub mod PairLaws
 pub mod Occurring
 pub mod Binding
 pub mod Unifying
-pub mod StepLaws
-pub mod UnseenLaws
-pub mod UnifyLaws
 pub mod TrialLaws
 pub mod Heads
-pub mod HeadLaws
-pub mod FitLaws
 pub mod Fitting
-pub mod HangLaws

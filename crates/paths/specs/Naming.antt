@@ -57,31 +57,3 @@ module _ (F : Expr) (G A : Goal) (f : Expr) (g a : Goal) (is : number_all [] (F 
 
   pub stood : map (rename α) (f ∷ (g ++ a)) ≡ F ∷ (G ++ A)
   stood = ap (map (rename α)) (inv is) ∙ named (F ∷ (G ++ A))
-
-  far : Apart α past (f ∷ (g ++ a)) (c.head ∷ c.body)
-  far = record {
-    left = λ v w i j. names_apart (F ∷ (G ++ A)) v w (subst (InAny v) (inv is) i) (subst (InAny w) (inv is) j);
-    right = λ v w i j e. omega (arith, e);
-    shared = λ v w i j e. omega (arith, e, low (α v) (subst (InAny (α v)) stood (in-any-rename α v (f ∷ (g ++ a)) i)));
-  }
-
-  any-front : (v : ℕ) (l m : Goal) → InAny v l → InAny v (l ++ m)
-  any-front v (e ∷ l) m (inl i) = inl i
-  any-front v (e ∷ l) m (inr i) = inr (any-front v l m i)
-  any-front v [] m x' = elim x' [ ]
-
-  pub near : Apart α past (f ∷ g) (c.head ∷ c.body)
-  near = record {
-    left = λ v w i j. far.left v w (any-front v (f ∷ g) a i) (any-front w (f ∷ g) a j);
-    right = far.right;
-    shared = λ v w i. far.shared v w (any-front v (f ∷ g) a i);
-  }
-
-  -- under a most general unifier of F and the clause's head, the body in the place of F and the rest, numbered, are the next goal and answer
-  pub held-step : (σ : Subst) → MostGeneral σ F (rename past c.head)
-      → (h : Goal) × (b : Goal) × Onward f g a c h b × (h ++ b ≡ number_all [] (map (apply σ) (map (rename past) c.body ++ (G ++ A))))
-  held-step σ general =
-      let m = subst (λ e. MostGeneral σ e (rename past c.head)) (inv (head-eq_of_cons-eq stood)) general in
-      let o = onward α past f g a c near far σ m in
-      let mine : Resolved f (g ++ a) c (number_all [] (resolvent α past σ c (g ++ a))) = record { goal_names = α; clause_names = past; apart = far; unifier = σ; general = m; result = refl } in
-      (_, _, o, resolved-one f (g ++ a) c _ _ o.whole mine ∙ ap (λ l. number_all [] (map (apply σ) (map (rename past) c.body ++ l))) (tail-eq_of_cons-eq stood))

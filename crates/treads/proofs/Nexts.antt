@@ -27,7 +27,7 @@ use Rattle.applying.proofs.Rooms.{fits_both, small_is}
 use Rattle.trials.proofs.Heaps.{flat_rows, piece-whole}
 use Rattle.heap.specs.Heap.{rows, Whole, Solved}
 use Rattle.heap.specs.declared.walking.Walk.{Walk}
-use Rattle.paths.specs.Naming.{held-step}
+use Rattle.paths.proofs.Naming.{held-step}
 use Rattle.bounds.specs.Places.{places_all, Seldom}
 use Rattle.bounds.specs.GoalLaws.{numbered-nodes, places-all-number}
 use Rattle.bounds.specs.OftenLaws.{seldom-number}

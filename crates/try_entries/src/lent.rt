@@ -7,7 +7,7 @@
 ghost use Rattle.std.specs.Prelude.{◌≡◌, ◌≤◌, true, length, nat_le};
 ghost use Rattle.try_entries.specs.Item.{holds_book, complete};
 
-use crate::{entries, flat, number, print, reading};
+use crate::{entries, flat_entries, number, print, text_entries};
 
 fn next(byte: u8, more: u8) -> u8 {
     byte.wrapping_add(more)

@@ -1,4 +1,5 @@
-use Rattle.heap.specs.Following.{same_start, follow_symbol, in_table, follow_free, follow_on, follow_less}
+use Rattle.heap.specs.Following.{same_start, follow_symbol, in_table, follow_free, follow_on}
+use Rattle.heap.proofs.Falling.{follow_less}
 use Rattle.heap.proofs.follow.Goals as goal
 
 pub loop-p-init : goal.loop-p-init

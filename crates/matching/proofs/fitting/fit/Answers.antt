@@ -2,8 +2,8 @@ use native.Mathlib.Omega.{arith}
 use mathlib.Core.Path.{subst}
 use Rattle.matching.specs.Heads.{HeadMet}
 use Rattle.matching.specs.Fitting.{HangsLast, Fitting}
-use Rattle.matching.specs.FitLaws.{extends-begun, unlike_clash, fit-done, fit-last}
-use Rattle.matching.specs.HangLaws.{none-weighed, fitting-again}
+use Rattle.matching.proofs.FitLaws.{extends-begun, unlike_clash, fit-done, fit-last}
+use Rattle.matching.proofs.HangLaws.{none-weighed, fitting-again}
 use Rattle.matching.proofs.fitting.fit.Goals as goal
 
 pub returns-then-x-eq0 : goal.returns-then-x-eq0

@@ -1,7 +1,7 @@
 use native.Mathlib.Omega.{arith}
 use mathlib.Core.Path.{subst}
 use Rattle.matching.specs.Unifying.{Unified}
-use Rattle.matching.specs.HangLaws.{not-weighed}
+use Rattle.matching.proofs.HangLaws.{not-weighed}
 use Rattle.matching.proofs.fitting.fit_all.Goals as goal
 
 pub returns-in-Fits : goal.returns-in-Fits

@@ -1,7 +1,7 @@
 use native.Mathlib.Omega.{arith}
 use mathlib.Core.Path.{refl}
-use Rattle.matching.specs.HeadLaws.{left_inside, right_inside, right-row}
-use Rattle.matching.specs.HangLaws.{hangs-last}
+use Rattle.matching.proofs.HeadLaws.{left_inside, right_inside, right-row}
+use Rattle.matching.proofs.HangLaws.{hangs-last}
 use Rattle.matching.proofs.fitting.hang_last.Goals as goal
 
 pub returns-then-x-ne1 : goal.returns-then-x-ne1

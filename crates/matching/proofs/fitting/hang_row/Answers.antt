@@ -1,7 +1,7 @@
 use native.Mathlib.Omega.{arith}
 use mathlib.Core.Path.{refl}
 use Rattle.heap.specs.HeapLaws.{row_inside}
-use Rattle.matching.specs.FitLaws.{counted-goal}
+use Rattle.matching.proofs.FitLaws.{counted-goal}
 use Rattle.matching.proofs.fitting.hang_row.Goals as goal
 
 pub returns-then-t-v : goal.returns-then-t-v

@@ -1,8 +1,8 @@
 use native.Mathlib.Omega.{arith}
 use mathlib.Core.Path.{refl}
 use Rattle.heap.specs.HeapLaws.{row_inside}
-use Rattle.matching.specs.PairLaws.{first-row-whole, behind_last, behind_more}
-use Rattle.matching.specs.HeadLaws.{variable-long}
+use Rattle.matching.proofs.PairLaws.{first-row-whole, behind_last, behind_more}
+use Rattle.matching.proofs.HeadLaws.{variable-long}
 use Rattle.matching.proofs.heads.behind_variable.Goals as goal
 
 pub returns-then-x-eq1 : goal.returns-then-x-eq1

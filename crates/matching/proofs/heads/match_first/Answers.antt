@@ -2,8 +2,8 @@ use Prim.Native.Nat.{◌%◌}
 use native.Mathlib.Omega.{arith}
 use mathlib.Core.Path.{refl, sym as inv, ap, ◌∙◌}
 use Rattle.heap.specs.HeapLaws.{rows_few}
-use Rattle.matching.specs.PairLaws.{alike-none, alike-more}
-use Rattle.matching.specs.HeadLaws.{left_inside, right_inside, symbol-here, unlike_symbols, on_alike}
+use Rattle.matching.proofs.PairLaws.{alike-none, alike-more}
+use Rattle.matching.proofs.HeadLaws.{left_inside, right_inside, symbol-here, unlike_symbols, on_alike}
 use Rattle.matching.proofs.heads.match_first.Goals as goal
 
 pub word-w-requires : goal.word-w-requires

@@ -1,6 +1,6 @@
 use mathlib.Core.Path.{refl, ◌∙◌, subst}
 use Rattle.matching.specs.Heads.{Passes}
-use Rattle.matching.specs.HeadLaws.{match_start, match_on, match_unlike, match_unmixed}
+use Rattle.matching.proofs.HeadLaws.{match_start, match_on, match_unlike, match_unmixed}
 use native.Mathlib.Omega.{arith}
 use Rattle.matching.proofs.heads.match_head.Goals as goal
 

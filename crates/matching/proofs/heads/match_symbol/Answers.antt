@@ -3,9 +3,9 @@ use native.Mathlib.Omega.{arith}
 use mathlib.Core.Path.{refl, sym as inv, ap, ◌∙◌}
 use Rattle.words.specs.Word.{arity_of}
 use Rattle.heap.specs.HeapLaws.{rows_few}
-use Rattle.matching.specs.MeetLaws.{met_leaf, met-inside}
-use Rattle.matching.specs.StepLaws.{more_same}
-use Rattle.matching.specs.HeadLaws.{left-row, right-row, left_inside, right_inside, symbol-here, unlike_symbols, on-behind, on-inside}
+use Rattle.matching.proofs.MeetLaws.{met_leaf, met-inside}
+use Rattle.matching.proofs.StepLaws.{more_same}
+use Rattle.matching.proofs.HeadLaws.{left-row, right-row, left_inside, right_inside, symbol-here, unlike_symbols, on-behind, on-inside}
 use Rattle.matching.proofs.heads.match_symbol.Goals as goal
 
 pub follow-r-requires : goal.follow-r-requires

@@ -1,6 +1,6 @@
 use native.Mathlib.Omega.{arith}
 use mathlib.Core.Path.{sym as inv, ◌∙◌}
-use Rattle.matching.specs.HeadLaws.{left_inside, right_inside, on_variable}
+use Rattle.matching.proofs.HeadLaws.{left_inside, right_inside, on_variable}
 use Rattle.matching.proofs.heads.match_variable.Goals as goal
 
 pub get-requires : goal.get-requires

@@ -1,4 +1,4 @@
-use Rattle.matching.specs.MeetLaws.{apart-left, apart-right, apart_hang_left, apart_hang_right, apart-clash}
+use Rattle.matching.proofs.MeetLaws.{apart-left, apart-right, apart_hang_left, apart_hang_right, apart-clash}
 use Rattle.matching.proofs.meeting.apart.Goals as goal
 
 pub returns-then-y-x : goal.returns-then-y-x

@@ -3,7 +3,7 @@ use native.Mathlib.Omega.{arith}
 use mathlib.Core.Path.{sym as inv, ap, ◌∙◌}
 use Rattle.words.specs.Word.{arity_of}
 use Rattle.heap.specs.HeapLaws.{row_inside}
-use Rattle.matching.specs.MeetLaws.{met-same, met_leaf, met-inside, met-apart}
+use Rattle.matching.proofs.MeetLaws.{met-same, met_leaf, met-inside, met-apart}
 use Rattle.matching.proofs.meeting.meet.Goals as goal
 
 pub follow-a-requires : goal.follow-a-requires

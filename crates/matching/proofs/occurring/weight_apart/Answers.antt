@@ -3,7 +3,7 @@ use mathlib.Core.Path.{refl, sym as inv}
 use Rattle.heap.specs.LoneLaws.{flat-few, flat-inside, lone-on}
 use Rattle.bounds.specs.CountLaws.{tally-start, tally-on, tally-end, count-start, count-on, count-end}
 use Rattle.matching.specs.Occurring.{seek-start, seek-on, seek-end}
-use Rattle.matching.specs.HangLaws.{heavy}
+use Rattle.matching.proofs.HangLaws.{heavy}
 use Rattle.matching.proofs.occurring.weight_apart.Goals as goal
 
 pub loop-due-init : goal.loop-due-init

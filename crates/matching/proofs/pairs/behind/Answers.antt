@@ -1,5 +1,5 @@
 use mathlib.Core.Path.{refl}
-use Rattle.matching.specs.PairLaws.{behind_last, behind_more, first-row-whole}
+use Rattle.matching.proofs.PairLaws.{behind_last, behind_more, first-row-whole}
 use Rattle.matching.proofs.pairs.behind.Goals as goal
 
 pub returns-then-x-eq1 : goal.returns-then-x-eq1

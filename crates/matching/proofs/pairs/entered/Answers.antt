@@ -2,7 +2,7 @@ use Prim.Native.Nat.{◌+◌, ◌*◌}
 use native.Mathlib.Omega.{arith}
 use lib.ListN.{set}
 use lib.Seq.{lt-length-set}
-use Rattle.matching.specs.PairLaws.{entered-alone, entered-more}
+use Rattle.matching.proofs.PairLaws.{entered-alone, entered-more}
 use Rattle.matching.proofs.pairs.entered.Goals as goal
 
 pub returns-then-x-eq0 : goal.returns-then-x-eq0

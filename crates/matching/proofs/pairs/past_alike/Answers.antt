@@ -1,5 +1,5 @@
 use native.Mathlib.Omega.{arith}
-use Rattle.matching.specs.PairLaws.{alike-none, alike-left, alike_right, alike-few, alike-more}
+use Rattle.matching.proofs.PairLaws.{alike-none, alike-left, alike_right, alike-few, alike-more}
 use Rattle.matching.proofs.pairs.past_alike.Goals as goal
 
 pub loop-due-init : goal.loop-due-init

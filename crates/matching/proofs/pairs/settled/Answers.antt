@@ -1,6 +1,6 @@
 use native.Mathlib.Omega.{arith}
 use mathlib.Core.Path.{refl}
-use Rattle.matching.specs.PairLaws.{settled-due, settled-last, settled_before}
+use Rattle.matching.proofs.PairLaws.{settled-due, settled-last, settled_before}
 use Rattle.matching.proofs.pairs.settled.Goals as goal
 
 pub returns-then-x-gt0 : goal.returns-then-x-gt0

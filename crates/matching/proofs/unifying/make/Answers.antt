@@ -1,7 +1,7 @@
 use native.Mathlib.Omega.{arith}
 use mathlib.Core.Path.{refl, subst}
 use Rattle.matching.specs.Meeting.{Met}
-use Rattle.matching.specs.StepLaws.{step_same, step_join, step_hang}
+use Rattle.matching.proofs.StepLaws.{step_same, step_join, step_hang}
 use Rattle.matching.proofs.unifying.make.Goals as goal
 
 pub meet-requires : goal.meet-requires

@@ -1,7 +1,7 @@
 use native.Mathlib.Omega.{arith}
 use mathlib.Core.Path.{refl, ◌∙◌, subst}
 use Rattle.matching.specs.Unifying.{Stepped}
-use Rattle.matching.specs.UnifyLaws.{unify-start, unify-kept, first-pair, still_unmixed, pair-few, unify-end, unify-done, unify-inside, unify-clash, unify_tired}
+use Rattle.matching.proofs.UnifyLaws.{unify-start, unify-kept, first-pair, still_unmixed, pair-few, unify-end, unify-done, unify-inside, unify-clash, unify_tired}
 use Rattle.matching.proofs.unifying.unify.Goals as goal
 
 pub past_alike-x-requires : goal.past_alike-x-requires

@@ -1,6 +1,6 @@
 use mathlib.Core.Path.{◌≡◌}
 use lib.ListN.{length}
-use Rattle.matching.specs.UnifyLaws.{Unifying}
+use Rattle.matching.proofs.UnifyLaws.{Unifying}
 use Rattle.matching.proofs.unifying.unify.Given as goal
 
 abbrev pub invariant-loop-x : goal.invariant-loop-x

@@ -5,7 +5,7 @@ use lib.Seq.{length-take-le}
 use borrow.Rule.Slice.PartMut.{put_mid, same_len_mid}
 use Rattle.heapgoals.specs.HoldLaws.{fore-after}
 use Rattle.figures.specs.FigureLaws.{known-most}
-use Rattle.matching.specs.HangLaws.{none-weighed}
+use Rattle.matching.proofs.HangLaws.{none-weighed}
 use Rattle.attempts.proofs.Undoing.{trail_long, fore-part}
 use Rattle.treads.proofs.Summing.{nothing-charged}
 use Rattle.treads.proofs.UnderWay.{bounds_hold}

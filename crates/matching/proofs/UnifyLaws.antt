@@ -9,9 +9,9 @@ use Rattle.heap.specs.SolvedLaws.{solved_induction}
 use Rattle.matching.specs.Meeting.{Equal}
 use Rattle.matching.specs.Binding.{Trailed, trail-none}
 use Rattle.matching.specs.Pairs.{EqualLevels, EqualAll, Due, Alike, Behind, Settled, Entered}
-use Rattle.matching.specs.PairLaws.{none-due, first-row-whole}
+use Rattle.matching.proofs.PairLaws.{none-due, first-row-whole}
 use Rattle.matching.specs.Unifying.{Unmixed, Begun, Unseen, Stepped, TrailKept, Unified}
-use Rattle.matching.specs.UnseenLaws.{unseen as more-unseen}
+use Rattle.matching.proofs.UnseenLaws.{unseen as more-unseen}
 use Rattle.matching.specs.declared.pairs.Pairs.{Pairs}
 use Rattle.matching.specs.declared.unifying.Trial.{Trial}
 use Rattle.matching.specs.declared.unifying.Step.TheVariants as Step

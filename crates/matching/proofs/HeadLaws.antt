@@ -8,13 +8,13 @@ use Rattle.heap.specs.Heap.{rows, Whole, bound, Made, Solves}
 use Rattle.heap.specs.HeapLaws.{rows-var, rows_none, row_inside}
 use Rattle.heap.specs.Following.{Followed, same_start}
 use Rattle.matching.specs.Meeting.{Equal, Bindable, Met}
-use Rattle.matching.specs.MeetLaws.{met-apart, apart-clash, bind-right}
-use Rattle.matching.specs.StepLaws.{more-bound}
+use Rattle.matching.proofs.MeetLaws.{met-apart, apart-clash, bind-right}
+use Rattle.matching.proofs.StepLaws.{more-bound}
 use Rattle.matching.specs.Pairs.{EqualLevels, Alike, Behind, Settled, Entered}
-use Rattle.matching.specs.PairLaws.{first-row-whole, equal-first}
+use Rattle.matching.proofs.PairLaws.{first-row-whole, equal-first}
 use Rattle.matching.specs.Unifying.{Unmixed, Low, Begun, More}
-use Rattle.matching.specs.UnifyLaws.{unmixed_while}
-use Rattle.matching.specs.UnseenLaws.{unseen as more-unseen}
+use Rattle.matching.proofs.UnifyLaws.{unmixed_while}
+use Rattle.matching.proofs.UnseenLaws.{unseen as more-unseen}
 use Rattle.matching.specs.Heads.{Extends, Onward, Matching}
 use Rattle.matching.specs.declared.meeting.Meeting.TheVariants.{Inside, Clash}
 use Rattle.matching.specs.declared.pairs.Pairs.{Pairs}

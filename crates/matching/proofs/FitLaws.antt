@@ -6,15 +6,15 @@ use Rattle.words.specs.Word.{kind_of}
 use Rattle.heap.specs.Heap.{Whole, bound, Made, Solves, Solved}
 use Rattle.heap.specs.Following.{Followed}
 use Rattle.matching.specs.Meeting.{Equal, Bindable}
-use Rattle.matching.specs.MeetLaws.{bind_left}
-use Rattle.matching.specs.StepLaws.{step_hang}
-use Rattle.matching.specs.HeadLaws.{left-row, right-row, right_inside, symbol-here}
+use Rattle.matching.proofs.MeetLaws.{bind_left}
+use Rattle.matching.proofs.StepLaws.{step_hang}
+use Rattle.matching.proofs.HeadLaws.{left-row, right-row, right_inside, symbol-here}
 use Rattle.matching.specs.Occurring.{Apart}
 use Rattle.matching.specs.Binding.{counted, Trailed}
 use Rattle.matching.specs.Pairs.{EqualLevels, EqualAll}
-use Rattle.matching.specs.PairLaws.{none-due}
+use Rattle.matching.proofs.PairLaws.{none-due}
 use Rattle.matching.specs.Unifying.{Begun, Unseen, More, Bound, Stepped, Unified}
-use Rattle.matching.specs.UnseenLaws.{unseen as more-unseen}
+use Rattle.matching.proofs.UnseenLaws.{unseen as more-unseen}
 use Rattle.matching.specs.Heads.{Extends, Matching}
 use Rattle.matching.specs.declared.pairs.Pairs.{Pairs}
 use Rattle.matching.specs.declared.unifying.Trial.{Trial}

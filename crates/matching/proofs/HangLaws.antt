@@ -17,7 +17,7 @@ use Rattle.bounds.specs.declared.Weight.{Weight}
 use Rattle.matching.specs.Binding.{noted, counted}
 use Rattle.matching.specs.Occurring.{Apart}
 use Rattle.matching.specs.Unifying.{Bound}
-use Rattle.matching.specs.FitLaws.{fit-again, hung-bindable, hung_so}
+use Rattle.matching.proofs.FitLaws.{fit-again, hung-bindable, hung_so}
 use Rattle.matching.specs.Fitting.{Heavy, Hangs, HangsLast, Fitting}
 use Rattle.matching.specs.declared.pairs.Pairs.{Pairs}
 use Rattle.matching.specs.declared.unifying.Trial.{Trial}
