@@ -12,7 +12,7 @@ use Rattle.search.specs.Next.{Goal}
 use Rattle.words.specs.Flat.{flat, flat_append, flat-apply}
 use Rattle.heap.specs.Heap.{rows, Whole, bound}
 use Rattle.heap.specs.HeapLaws.{first-whole, rest-whole}
-use Rattle.heap.specs.SolvedLaws.{row-free}
+use Rattle.heap.proofs.SolvedLaws.{row-free}
 use Rattle.heap.specs.Walking.{level_at, level_due, Levels, behind}
 use Rattle.heapgoals.specs.declared.Standing.{Standing}
 use Rattle.heapgoals.specs.Holding.{listed, waiting, goal_rows, answer_rows, used, Holds}

@@ -11,7 +11,7 @@ use Rattle.words.specs.WordLaws.{in-fits, each_take, each-drop, nodes-take, node
 use Rattle.words.specs.Flat.{flat, flat_append, flat-apply}
 use Rattle.heap.specs.Heap.{rows, Whole, Made, Solved}
 use Rattle.heap.specs.HeapLaws.{rows_none, rest-whole, rows-first}
-use Rattle.heap.specs.SolvedLaws.{solved_induction}
+use Rattle.heap.proofs.SolvedLaws.{solved_induction}
 use Rattle.heap.specs.Walking.{level_at, level_due, Levels, behind}
 use Rattle.heapgoals.specs.Holding.{listed, waiting}
 

@@ -8,8 +8,8 @@ use Rattle.terms.specs.Subst.{Subst, apply, only}
 use Rattle.terms.specs.SubstLaws.{apply-row, only_same}
 use Rattle.heap.specs.Heap.{rows, Whole, bound, Made, Solved}
 use Rattle.heap.specs.Following.{Followed}
-use Rattle.heap.specs.BindLaws.{bind-solved}
-use Rattle.heap.specs.SolvedLaws.{solved-one}
+use Rattle.heap.proofs.BindLaws.{bind-solved}
+use Rattle.heap.proofs.SolvedLaws.{solved-one}
 use Rattle.bounds.specs.Places.{weigh, places, times, below}
 use Rattle.bounds.specs.Sizing.{Known, Sized, plain, Weighs, Weighed}
 use Rattle.bounds.specs.OftenLaws.{times_below, times_above}

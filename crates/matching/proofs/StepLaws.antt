@@ -9,7 +9,7 @@ use Rattle.words.specs.Word.{kind_of}
 use Rattle.words.specs.WordLaws.{node-sym}
 use Rattle.heap.specs.Heap.{rows, bound, Made, Solved}
 use Rattle.heap.specs.HeapLaws.{stands-var, stands-sym}
-use Rattle.heap.specs.BindLaws.{bind-made, bind_iff, bind-solved, bind-none}
+use Rattle.heap.proofs.BindLaws.{bind-made, bind_iff, bind-solved, bind-none}
 use Rattle.matching.specs.Meeting.{Bindable, Met}
 use Rattle.matching.specs.Binding.{noted, counted, trail-bind}
 use Rattle.matching.specs.Unifying.{More, Hung, KeptUp, Stepped}

@@ -5,7 +5,7 @@ use Rattle.terms.specs.Subst.{In, Subst, itself}
 use Rattle.terms.specs.SubstLaws.{in-apply}
 use Rattle.heap.specs.Heap.{rows, Whole, bound, Made, Solves, Solved}
 use Rattle.heap.specs.HeapLaws.{rows_few}
-use Rattle.heap.specs.SolvedLaws.{solved_induction}
+use Rattle.heap.proofs.SolvedLaws.{solved_induction}
 use Rattle.matching.specs.Meeting.{Equal}
 use Rattle.matching.specs.Binding.{Trailed, trail-none}
 use Rattle.matching.specs.Pairs.{EqualLevels, EqualAll, Due, Alike, Behind, Settled, Entered}

@@ -4,7 +4,7 @@ use Rattle.std.proofs.Common.{arith}
 use Rattle.terms.specs.Row.{row_end, row_var}
 use Rattle.terms.specs.Subst.{Subst, itself, Unifies, MostGeneral}
 use Rattle.heap.specs.Heap.{rows, bound, Solves, Solved}
-use Rattle.heap.specs.SolvedLaws.{solved-general}
+use Rattle.heap.proofs.SolvedLaws.{solved-general}
 use Rattle.matching.specs.Meeting.{Equal}
 use Rattle.matching.specs.Unifying.{More}
 

@@ -3,10 +3,10 @@ use Rattle.std.specs.Prelude.{ℕ, zero, suc, ◌≡◌, refl, List}
 use Rattle.std.proofs.Common.{sym as inv, ap, ◌∙◌, append-nil}
 use Rattle.terms.specs.Node.{Expr}
 use Rattle.terms.specs.Row.{Row, row_end, row_var}
-use Rattle.terms.specs.Subst.{Subst, Proper, apply, after, itself, Unifies, MostGeneral}
+use Rattle.terms.specs.Subst.{Subst, Proper, apply, after, Unifies, MostGeneral}
 use Rattle.terms.specs.SubstLaws.{apply-on, apply-after, apply-row}
 use Rattle.heap.specs.Heap.{rows, bound, Made, Solves, Solved}
-use Rattle.heap.specs.SolvedLaws.{solved-general, solved-free, row-free}
+use Rattle.heap.proofs.SolvedLaws.{solved-general, solved-free, row-free}
 use Rattle.matching.specs.Unifying.{More}
 use Rattle.paths.specs.Binding as B
 
@@ -18,13 +18,13 @@ module _ (heap cells cells' : List ℕ) (made : Made heap cells) {θ : Subst} (s
   still = ((more.just θ').1 s'.solves).0
 
   -- what a row stands for after the trial
-  pub (B.newly heap cells cells' made s p q more s')-meant : (e : Expr) → apply (B.newly heap cells cells' made s p q more s') (apply θ e) ≡ apply θ' e
-  (B.newly heap cells cells' made s p q more s')-meant e =
+  pub newly-meant : (e : Expr) → apply (B.newly heap cells cells' made s p q more s') (apply θ e) ≡ apply θ' e
+  newly-meant e =
       apply-on (B.newly heap cells cells' made s p q more s') θ' (apply θ e) (λ w i. at-free w (row-free made s w e i))
       ∙ apply-after θ' θ e ∙ apply-on (after θ' θ) θ' e (λ v i. inv (solved-general made s θ' still v))
 
-  (B.newly heap cells cells' made s p q more s')-proper : Proper (B.newly heap cells cells' made s p q more s')
-  (B.newly heap cells cells' made s p q more s')-proper v = go (bound cells v)
+  newly-proper : Proper (B.newly heap cells cells' made s p q more s')
+  newly-proper v = go (bound cells v)
     where
       go : (b : ℕ) → Row 1 ((B.chosen heap cells cells' made s p q more s') b v)
       go zero = s'.solves.proper v
@@ -49,8 +49,8 @@ module _ (heap cells cells' : List ℕ) (made : Made heap cells) {θ : Subst} (s
             ∙ apply-on (after τ θ) τ (θ' v) (λ w i. on-free w (more.grows w (solved-free more.made s' v w i)))
         go (suc r) e = inv (append-nil (τ v))
 
-  pub (B.newly heap cells cells' made s p q more s')-general : MostGeneral (B.newly heap cells cells' made s p q more s') (apply θ (rows heap 1 p)) (apply θ (rows heap 1 q))
-  (B.newly heap cells cells' made s p q more s')-general = record {
-    unifies = ((B.newly heap cells cells' made s p q more s')-proper, (B.newly heap cells cells' made s p q more s')-meant (rows heap 1 p) ∙ ((more.just θ').1 s'.solves).1 ∙ inv ((B.newly heap cells cells' made s p q more s')-meant (rows heap 1 q)));
+  pub newly-general : MostGeneral (B.newly heap cells cells' made s p q more s') (apply θ (rows heap 1 p)) (apply θ (rows heap 1 q))
+  newly-general = record {
+    unifies = (newly-proper, newly-meant (rows heap 1 p) ∙ ((more.just θ').1 s'.solves).1 ∙ inv (newly-meant (rows heap 1 q)));
     general = λ τ u. (τ, u.0, instance τ u);
   }

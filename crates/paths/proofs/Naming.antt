@@ -1,14 +1,12 @@
 -- Goal and clause have no variable in common; the next goal and answer from what goal and answer stood for.
-use Rattle.std.specs.Prelude.{ℕ, ◌+◌, ◌<◌, ◌≡◌, refl, get_or}
-use Rattle.std.proofs.Common.{arith, sym as inv, ap, ap₂, ◌∙◌, subst, inl, inr}
-use mathlib.Core.List.{[], ◌∷◌, ◌++◌, map, map-map, head-eq_of_cons-eq, tail-eq_of_cons-eq}
+use Rattle.std.specs.Prelude.{ℕ, ◌<◌, ◌≡◌, refl}
+use Rattle.std.proofs.Common.{arith, sym as inv, ap, ◌∙◌, subst, inl, inr}
+use mathlib.Core.List.{[], ◌∷◌, ◌++◌, map, head-eq_of_cons-eq, tail-eq_of_cons-eq}
 use Rattle.terms.specs.Node.{Expr}
-use Rattle.terms.specs.Subst.{In, InAny, Subst, apply, itself, MostGeneral}
-use Rattle.terms.specs.SubstLaws.{in-apply, map_same}
-use Rattle.terms.specs.Rename.{rename, InjectiveOn, Apart}
-use Rattle.terms.specs.RenameLaws.{in-any-rename, rename_idle, rename-rename, rename-apply}
-use Rattle.terms.specs.Number.{place, seen_all, number_all}
-use Rattle.terms.proofs.NumberLaws.{get_d_place, in-seen-all, number-all-is-rename}
+use Rattle.terms.specs.Subst.{InAny, Subst, apply, MostGeneral}
+use Rattle.terms.specs.Rename.{rename, Apart}
+use Rattle.terms.specs.RenameLaws.{in-any-rename}
+use Rattle.terms.specs.Number.{number_all}
 use Rattle.search.specs.Next.{Clause, Goal, resolvent, Resolved}
 use Rattle.search.proofs.NextLaws.{resolved-one}
 use Rattle.applying.specs.Applying.{Onward}

@@ -1,13 +1,9 @@
 -- A trial that binds more on a heap where variables are bound already: what it binds, at the variables that were free before it, is a most general unifier of what the two rows stood for; and
 -- what it makes of them it makes of every row.
-use Rattle.std.specs.Prelude.{ℕ, zero, suc, ◌≡◌, refl, List}
-use Rattle.std.proofs.Common.{sym as inv, ap, ◌∙◌, append-nil}
+use Rattle.std.specs.Prelude.{ℕ, zero, suc, List}
 use Rattle.terms.specs.Node.{Expr}
-use Rattle.terms.specs.Row.{Row, row_end, row_var}
-use Rattle.terms.specs.Subst.{Subst, Proper, apply, after, itself, Unifies, MostGeneral}
-use Rattle.terms.specs.SubstLaws.{apply-on, apply-after, apply-row}
-use Rattle.heap.specs.Heap.{rows, bound, Made, Solves, Solved}
-use Rattle.heap.specs.SolvedLaws.{solved-general, solved-free, row-free}
+use Rattle.terms.specs.Subst.{Subst, itself}
+use Rattle.heap.specs.Heap.{bound, Made, Solved}
 use Rattle.matching.specs.Unifying.{More}
 
 module _ (heap cells cells' : List ℕ) (made : Made heap cells) {θ : Subst} (s : Solved heap cells θ) (p q : ℕ) (more : More heap cells p q cells') {θ' : Subst} (s' : Solved heap cells' θ') where

@@ -1,18 +1,15 @@
 -- Formulas that are numbered, and the names that their variables had; the next goal and answer from what goal and answer stood for under any names.
 use Rattle.std.specs.Prelude.{ℕ, ◌+◌, ◌<◌, ◌≡◌, refl, get_or}
-use Rattle.std.proofs.Common.{arith, sym as inv, ap, ap₂, ◌∙◌, subst, inl, inr}
-use mathlib.Core.List.{[], ◌∷◌, ◌++◌, map, map-map, head-eq_of_cons-eq, tail-eq_of_cons-eq}
+use Rattle.std.proofs.Common.{sym as inv, ap, ap₂, ◌∙◌, subst, inl, inr}
+use mathlib.Core.List.{[], ◌∷◌, ◌++◌, map, map-map}
 use Rattle.terms.specs.Node.{Expr}
-use Rattle.terms.specs.Subst.{In, InAny, Subst, apply, itself, MostGeneral}
+use Rattle.terms.specs.Subst.{In, InAny, itself}
 use Rattle.terms.specs.SubstLaws.{in-apply, map_same}
-use Rattle.terms.specs.Rename.{rename, InjectiveOn, Apart}
-use Rattle.terms.specs.RenameLaws.{in-any-rename, rename_idle, rename-rename, rename-apply}
+use Rattle.terms.specs.Rename.{rename, InjectiveOn}
+use Rattle.terms.specs.RenameLaws.{rename_idle, rename-rename, rename-apply}
 use Rattle.terms.specs.Number.{place, seen_all, number_all}
 use Rattle.terms.proofs.NumberLaws.{get_d_place, in-seen-all, number-all-is-rename}
-use Rattle.search.specs.Next.{Clause, Goal, resolvent, Resolved}
-use Rattle.search.proofs.NextLaws.{resolved-one}
-use Rattle.applying.specs.Applying.{Onward}
-use Rattle.applying.proofs.Onwards.{onward}
+use Rattle.search.specs.Next.{Clause, Goal}
 
 idle_all : (τ : ℕ → ℕ) (g : Goal) → ((v : ℕ) → InAny v g → τ v ≡ v) → map (rename τ) g ≡ g
 idle_all τ [] same = refl

@@ -19,7 +19,7 @@ use Rattle.words.specs.Flat.{flat, flat-apply, flat-size}
 use Rattle.words.specs.Held.{ClauseIn}
 use Rattle.words.specs.HeldLaws.{head-length}
 use Rattle.heap.specs.Heap.{rows, bound, Solved}
-use Rattle.heap.specs.SolvedLaws.{solved-one}
+use Rattle.heap.proofs.SolvedLaws.{solved-one}
 use Rattle.trials.specs.Trying.{trail}
 use Rattle.bounds.specs.Places.{weigh, times, places, places_all, Seldom}
 use Rattle.figures.specs.Figures.{first_of}

@@ -8,7 +8,7 @@ use Rattle.terms.specs.Subst.{In, Subst, apply, after, itself, only}
 use Rattle.terms.specs.SubstLaws.{in-length, apply-on, apply-after, apply-row, only-cases, only_same, only-proper, only_fixed}
 use Rattle.words.specs.Word.{kind_of, Fits}
 use Rattle.heap.specs.Heap.{rows, Whole, bound, Made, Solves, Solved}
-use Rattle.heap.specs.SolvedLaws.{solved-general}
+use Rattle.heap.proofs.SolvedLaws.{solved-general}
 
 -- The variable v, which is not bound, on the row at p.
 module _ (heap cells : List ℕ) (v p : ℕ) (free : bound cells v ≡ 0) (inside : v < length cells) where
