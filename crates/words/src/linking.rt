@@ -3,7 +3,7 @@ ghost use Rattle.std.specs.Prelude.{◌≡◌, ℕ, ◌+◌, ◌*◌, ◌<◌, �
 ghost use Rattle.words.specs.Held.{key};
 ghost use Rattle.words.specs.Lists.{Built};
 
-use crate::lists::list_of;
+use crate::lists::{LISTS, list_of};
 use crate::shelf::NEXT;
 use crate::{get, word};
 
@@ -12,11 +12,7 @@ fn empty(shelf: &mut [u16], clauses: usize)
     requires { (clauses ≤ 512) × (256 ≤ length shelf.old) }
     ensures { ((h : ℕ) → h < 256 → get_or shelf.new h 0 ≡ clauses) × ((x : ℕ) → 256 ≤ x → get_or shelf.new x 0 ≡ get_or shelf.old x 0) }
 {
-    let mut h = 0;
-    while h < 256 {
-        shelf[h] = clauses as u16;
-        h += 1;
-    }
+    shelf[..LISTS].fill(clauses as u16);
 }
 
 // The clause number i before those of the list h.
@@ -28,26 +24,15 @@ fn prepend(shelf: &mut [u16], h: usize, i: usize)
     shelf[h] = i as u16;
 }
 
-// The clause with k behind it.
-fn from_last(clauses: usize, k: usize) -> usize
-    requires { k < clauses }
-    ensures { result + k + 1 ≡ clauses }
-{
-    clauses - 1 - k
-}
-
 // From the last clause to the first, so that each list is in the order of the book.
 pub fn link(book: &[u32], starts: &[u16], clauses: usize, shelf: &mut [u16])
     requires { (clauses ≤ 512) × (clauses ≤ length starts.now) × (4 * clauses + 260 ≤ length shelf.old) × ((i : ℕ) → i < clauses → get_or starts.now i 0 < length book.now) }
     ensures { Built clauses 0 (key book.now starts.now) shelf.old shelf.new }
 {
     empty(shelf, clauses);
-    let mut k = 0;
-    while k < clauses {
-        let i = from_last(clauses, k);
+    for i in (0..clauses).rev() {
         let s = get(starts, i);
         let h = list_of(word(book, s));
         prepend(shelf, h, i);
-        k += 1;
     }
 }

@@ -8,6 +8,9 @@ ghost use Rattle.words.specs.Lists.{head_word, OnList, Found};
 use crate::shelf::{NEXT, START, clauses, entry};
 use crate::{get, word};
 
+// How many lists there are.
+pub const LISTS: usize = 256;
+
 // The list of a word's predicate: the remainder of its number, which is the low part of the word.
 pub fn list_of(u: u32) -> usize
     ensures { (result ≡ u % 256) × (result < 256) }
@@ -60,7 +63,8 @@ fn along(book: &[u32], shelf: &[u16], u: u32, at: usize) -> usize
     all
 }
 
-// The first clause from a number on whose head begins with the word u; how many clauses there are where there is none.
+// The first clause from a number on whose head begins with the word u; how many clauses there are where there is none. That number and no None: a list ends
+// with it on the shelf, and each walk along one (choosing::pick, whose form document 01 gives) compares its number with the count anyhow.
 pub fn find(book: &[u32], shelf: &[u16], u: u32, from: usize) -> usize
     requires { (P : Book) × BookOn book.now shelf.now P × (from ≤ length P) }
     ensures { (P : Book) → BookOn book.now shelf.now P → Found book.now shelf.now P u from result }
