@@ -13,8 +13,7 @@ use Rattle.format.specs.declared.State.{State}
 use Rattle.format.specs.declared.Form.{Form}
 use Rattle.format.specs.declared.Fault.{Fault}
 use Rattle.format.specs.declared.Fault.TheVariants.{Kind, Cut, Range, Size, Number, Arity}
-use Rattle.format.specs.declared.Judged.{Judged}
-use Rattle.format.specs.declared.Judged.TheVariants.{Next, Bad}
+use Rattle.std.specs.Prelude.{Result, Ok, Err}
 use Rattle.format.specs.Reading.{code_base, byte_limit, fault_number, refused, body_length, allowed, judge, whole, finish, walk, verdict, start}
 use Rattle.format.specs.Arities.{Memory}
 use Rattle.format.proofs.Taken.{taken}
@@ -57,13 +56,13 @@ module _ (form : Form) (s : List ℕ) where
     | no p ↦ rw (walk_end form s (suc k) at state m (le-ltb at (length s) (omega arith))) (from-finish at state l)
   ]
     where
-      go : at < length s → (j : Judged) → judge form state m s at ≡ j → ((next : State) → at + 1 + body_length (get_or s at 0) ≤ length s → From (at + 1 + body_length (get_or s at 0)) (walk form k s (at + 1 + body_length (get_or s at 0)) next (met_at s at m))) →
+      go : at < length s → (j : Result State Fault) → judge form state m s at ≡ j → ((next : State) → at + 1 + body_length (get_or s at 0) ≤ length s → From (at + 1 + body_length (get_or s at 0)) (walk form k s (at + 1 + body_length (get_or s at 0)) next (met_at s at m))) →
           From at (walk form (suc k) s at state m)
-      go p (Next next) e rest = let b = (taken form state m s at next e).body in rw (walk-next form s k at state next m (lt-ltb _ _ p) e) (from-later (omega arith) (rest next (omega arith)))
-      go p (Bad fault) e rest = rw (walk-bad form s k at state m fault (lt-ltb _ _ p) e) (from-refused at fault p)
+      go p (Ok next) e rest = let b = (taken form state m s at next e).body in rw (walk-next form s k at state next m (lt-ltb _ _ p) e) (from-later (omega arith) (rest next (omega arith)))
+      go p (Err fault) e rest = rw (walk-bad form s k at state m fault (lt-ltb _ _ p) e) (from-refused at fault p)
 
   -- a record whose kind is allowed is not refused for its kind
-  not-kind : (at : ℕ) (state : State) (m : Memory) (fault : Fault) → allowed form state (get_or s at 0) ≡ true → Looked form state m s at (Bad fault) → code_base form + fault_number fault ≡ kind → ⊥
+  not-kind : (at : ℕ) (state : State) (m : Memory) (fault : Fault) → allowed form state (get_or s at 0) ≡ true → Looked form state m s at (Err fault) → code_base form + fault_number fault ≡ kind → ⊥
   not-kind at state m fault a (kind_failed k) e = let z : ◌≡◌ {A = ℕ} 0 1 = cc in omega arith
   not-kind at state m fault a (cut_failed k c) e = omega arith
   not-kind at state m fault a (whole_record k c (range_failed r)) e = omega arith
@@ -88,11 +87,11 @@ module _ (form : Form) (s : List ℕ) where
       some Number e = omega arith
       some Arity e = omega arith
 
-      go : (j : Judged) → judge form state m s at ≡ j → at < allowed_up_to (code_base form) (walk form (suc k) s at state m) (length s)
-      go (Next next) e =
+      go : (j : Result State Fault) → judge form state m s at ≡ j → at < allowed_up_to (code_base form) (walk form (suc k) s at state m) (length s)
+      go (Ok next) e =
           let b = (taken form state m s at next e).body in
           rw (walk-next form s k at state next m (lt-ltb _ _ l) e) (past _ (from-later (omega arith) (walk_from k (at + 1 + body_length (get_or s at 0)) next (met_at s at m) (omega arith))))
-      go (Bad fault) e =
+      go (Err fault) e =
           let n = not-kind at state m fault a (subst (Looked form state m s at) e (looked form state m s at)) in
           rw (walk-bad form s k at state m fault (lt-ltb _ _ l) e) (simp (ne_eqb (code_base form + fault_number fault) 0 (some fault), ne_eqb (code_base form + fault_number fault) kind n) (omega arith))
 

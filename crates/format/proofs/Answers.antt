@@ -15,7 +15,7 @@ use Rattle.format.specs.declared.Form.TheVariants.{Book, Query}
 use Rattle.format.specs.declared.Record.{Record}
 use Rattle.format.specs.declared.Fault.{Fault}
 use Rattle.format.specs.declared.Fault.TheVariants.{Kind, Size}
-use Rattle.format.specs.declared.Judged.TheVariants.{Bad}
+use Rattle.std.specs.Prelude.{Err}
 use Rattle.format.specs.Reading.{byte_limit, count_of, refused, judge, whole, finish, walk, met_from, start, verdict}
 use Rattle.format.specs.Format.{encode, Bytes}
 use Rattle.format.specs.Arities.{Use, uses_of, OneArity, Memory, nothing_met, recall}
@@ -77,7 +77,7 @@ module _ (form : Form) (us : List Use) (one : OneArity us) (s : List ℕ) (bytes
 
   said_record : OfRecord form before s bytes short (Refused form us s)
   said_record at h fault l e =
-      let j : judge form (reach start h.rs) (recall nothing_met (us ++ uses_of h.rs)) s at ≡ Bad fault = subst (λ (m : Memory). judge form (reach start h.rs) m s at ≡ Bad fault) (remembers us h.rs) e in
+      let j : judge form (reach start h.rs) (recall nothing_met (us ++ uses_of h.rs)) s at ≡ Err fault = subst (λ (m : Memory). judge form (reach start h.rs) m s at ≡ Err fault) (remembers us h.rs) e in
       faulty-here at fault h
       (failed form us s at h.rs h.reads (kept-one h.rs h.kept) bytes l fault
       (subst (Looked form (reach start h.rs) (recall nothing_met (us ++ uses_of h.rs)) s at) j (looked form (reach start h.rs) (recall nothing_met (us ++ uses_of h.rs)) s at)))

@@ -16,8 +16,7 @@ use Rattle.format.specs.declared.Form.{Form}
 use Rattle.format.specs.declared.Form.TheVariants.{Book, Query}
 use Rattle.format.specs.declared.Fault.{Fault}
 use Rattle.format.specs.declared.Fault.TheVariants.{Kind, Cut, Range, Size, Number, Arity}
-use Rattle.format.specs.declared.Judged.{Judged}
-use Rattle.format.specs.declared.Judged.TheVariants.{Next, Bad}
+use Rattle.std.specs.Prelude.{Result, Ok, Err}
 use Rattle.format.specs.Reading.{code_base, refused, whole, finish, body_length, record_at, judge, go_further, walk, byte_limit, start, verdict, met, book_verdict, query_verdict}
 use Rattle.format.specs.Arities.{Memory, nothing_met, meets}
 
@@ -46,9 +45,9 @@ module _ (form : Form) where
   unfolding finish
   given-finish state end = cases (whole state) (λ w. simp w (inl refl)) (λ w. simp w (inr (omega arith, omega arith)))
 
-  given-on : (at : ℕ) (j : Judged) (rest : State → Check) → ((next : State) → Given (rest next)) → Given (go_further form at j rest)
-  given-on at (Next state) rest p = p state
-  given-on at (Bad fault) rest p = given-refused fault at
+  given-on : (at : ℕ) (j : Result State Fault) (rest : State → Check) → ((next : State) → Given (rest next)) → Given (go_further form at j rest)
+  given-on at (Ok state) rest p = p state
+  given-on at (Err fault) rest p = given-refused fault at
 
   given-walk : (k : ℕ) (s : List ℕ) (at : ℕ) (state : State) (m : Memory) → Given (walk form k s at state m)
   unfolding walk

@@ -17,8 +17,7 @@ use Rattle.format.specs.declared.Record.{Record}
 use Rattle.format.specs.declared.Record.TheVariants.{Variable, Constant, Compound, Formula, Clause, Goal, End}
 use Rattle.format.specs.declared.Fault.{Fault}
 use Rattle.format.specs.declared.Fault.TheVariants.{Kind, Cut, Range, Size, Number, Arity}
-use Rattle.format.specs.declared.Judged.{Judged}
-use Rattle.format.specs.declared.Judged.TheVariants.{Bad}
+use Rattle.std.specs.Prelude.{Result, Err}
 use Rattle.format.specs.Reading.{code_base, fault_number, allowed, body_length, record_at, in_range, whole, start}
 use Rattle.format.specs.Format.{record_kind, encode_record, Bytes}
 use Rattle.format.specs.Arities.{Use, uses_of, OneArity, Memory, nothing_met, recall}
@@ -104,7 +103,7 @@ not-false : {P : Type 0} (t : Bool) → P ↔ (t ≡ false) → (P → ⊥) ↔ 
 not-false t i = (λ n. cases t (λ e. e) (λ e. absurd (n (i.1 e))), λ e p. let q = i.0 p in zero_one (cc))
 
 -- a whole record at a place
-pub looked_record : (form : Form) (state : State) (m : Memory) (s : List ℕ) (at : ℕ) (r : Record) (l : List ℕ) (j : Judged) → Encoded s at r l → allowed form state (record_kind r) ≡ true →
+pub looked_record : (form : Form) (state : State) (m : Memory) (s : List ℕ) (at : ℕ) (r : Record) (l : List ℕ) (j : Result State Fault) → Encoded s at r l → allowed form state (record_kind r) ≡ true →
     Tested form state m r j → Looked form state m s at j
 looked_record form state m s at r l j e a t =
     let z : record_at s at (get_or s at 0) ≡ r = rw e.kind e.item in
@@ -127,7 +126,7 @@ module _ (form : Form) (us : List Use) (s : List ℕ) (at : ℕ) (rs : List Reco
     decoded a b = decode s bytes at (get_or s at 0) (allowed-kinded form (reach start rs) _ (allowed-is form (reach start rs) _ a)) refl b
 
     failed_record : (fault : Fault) (r : Record) → Stands form rs (drop at s) r → allowed form (reach start rs) (record_kind r) ≡ true → NarrowRecord r →
-        Tested form (reach start rs) memory r (Bad fault) → Fails form us rs (drop at s) (codes form fault)
+        Tested form (reach start rs) memory r (Err fault) → Fails form us rs (drop at s) (codes form fault)
     failed_record fault r d a n (range_failed e) = of_range r d ((not-true (in_range r) (range_iff r)).1 e) refl
     failed_record fault r d a n (size_failed i e) = of_size r d ((range_iff r).1 i) ((size_iff form rs (reach start rs) (told form rs f) r a n).1 e) refl
     failed_record fault r d a n (number_failed i e o) =
@@ -136,7 +135,7 @@ module _ (form : Form) (us : List Use) (s : List ℕ) (at : ℕ) (rs : List Reco
         of_arity r d ((range_iff r).1 i) ((not-false _ (size_iff form rs (reach start rs) (told form rs f) r a n)).1 e) ((not-false _ (number_iff form rs (reach start rs) (told form rs f) r a)).1 o)
         ((arity_iff (us ++ uses_of rs) one r).1 k) refl
 
-    pub failed : (fault : Fault) → Looked form (reach start rs) memory s at (Bad fault) → Fails form us rs (drop at s) (codes form fault)
+    pub failed : (fault : Fault) → Looked form (reach start rs) memory s at (Err fault) → Fails form us rs (drop at s) (codes form fault)
     failed fault (kind_failed e) = of_kind (get_or s at 0) (drop (suc at) s) here ((not-true _ (kind-allowed form rs f (get_or s at 0))).1 e) refl
     failed fault (cut_failed a c) =
         let k = kind_at a in
@@ -151,18 +150,18 @@ module _ (form : Form) (us : List Use) (s : List ℕ) (at : ℕ) (rs : List Reco
 
   -- the fault, with its code, as the reader finds it
   pub data Found (code : ℕ) : Type 0 where
-    at_record : (fault : Fault) → code ≡ codes form fault → at < length s → Looked form (reach start rs) memory s at (Bad fault) → Found code
+    at_record : (fault : Fault) → code ≡ codes form fault → at < length s → Looked form (reach start rs) memory s at (Err fault) → Found code
     at_end : code ≡ codes form Kind → length s ≤ at → whole (reach start rs) ≡ false → Found code
 
   module _ (bytes : Bytes s) (code : ℕ) where
     found_record : (fault : Fault) (r : Record) → Stands form rs (drop at s) r → code ≡ codes form fault →
-        (allowed form (reach start rs) (record_kind r) ≡ true → NarrowRecord r → Tested form (reach start rs) memory r (Bad fault)) → Found code
+        (allowed form (reach start rs) (record_kind r) ≡ true → NarrowRecord r → Tested form (reach start rs) memory r (Err fault)) → Found code
     found_record fault r d c t =
         let e = encoded s at r d.later d.bytes in
         let a = (kind-allowed form rs f (record_kind r)).0 d.allowed in
         let n = subst NarrowRecord e.item (decode s bytes at (record_kind r) (allowed-kinded form (reach start rs) _ (allowed-is form (reach start rs) _ a)) e.kind e.body).narrow in
         let body = e.body in
-        at_record fault c (omega arith) (looked_record form (reach start rs) memory s at r d.later (Bad fault) e a (t a n))
+        at_record fault c (omega arith) (looked_record form (reach start rs) memory s at r d.later (Err fault) e a (t a n))
 
     pub found : Fails form us rs (drop at s) code → Found code
     found (missing e n c) = at_end c (omega (arith, length-drop at s, ap length e)) ((not-true _ (complete-whole form rs f)).0 n)

@@ -10,7 +10,7 @@ use lib.Dec.{ltb}
 use Rattle.format.specs.declared.State.{State}
 use Rattle.format.specs.declared.Form.{Form}
 use Rattle.format.specs.declared.Fault.{Fault}
-use Rattle.format.specs.declared.Judged.TheVariants.{Next, Bad}
+use Rattle.std.specs.Prelude.{Ok, Err}
 use Rattle.format.specs.Reading.{body_length, judge, refused, record_at, finish, walk, met_from, start}
 use Rattle.format.specs.Arities.{Memory, meets}
 use Rattle.format.proofs.Taken.{taken, Within, within-later, after-within}
@@ -20,12 +20,12 @@ abbrev pub met_at : List ℕ → ℕ → Memory → Memory
 met_at s at m = meets m (record_at s at (get_or s at 0))
 
 module _ (form : Form) (s : List ℕ) where
-  pub walk-next : (k at : ℕ) (state next : State) (m : Memory) → ltb at (length s) ≡ true → judge form state m s at ≡ Next next →
+  pub walk-next : (k at : ℕ) (state next : State) (m : Memory) → ltb at (length s) ≡ true → judge form state m s at ≡ Ok next →
       walk form (suc k) s at state m ≡ walk form k s (at + 1 + body_length (get_or s at 0)) next (met_at s at m)
   unfolding walk
   walk-next k at state next m p e = simp (p, e)
 
-  pub walk-bad : (k at : ℕ) (state : State) (m : Memory) (fault : Fault) → ltb at (length s) ≡ true → judge form state m s at ≡ Bad fault →
+  pub walk-bad : (k at : ℕ) (state : State) (m : Memory) (fault : Fault) → ltb at (length s) ≡ true → judge form state m s at ≡ Err fault →
       walk form (suc k) s at state m ≡ refused form fault at
   unfolding walk
   walk-bad k at state m fault p e = simp (p, e)
@@ -58,7 +58,7 @@ module _ (form : Form) (s : List ℕ) (before : Memory) where
   going_start = record { bound = zero-le; counted = omega arith; fuel = suc (length s); enough = omega arith; same = refl; met = refl }
 
   going-by : (state : State) (at : ℕ) (m : Memory) (next : State) (k : ℕ) → at < length s → Within at state → length s - at < k →
-      walk form k s at state m ≡ walk form (suc (length s)) s 0 start before → met_from k s at m ≡ met_from (suc (length s)) s 0 before → judge form state m s at ≡ Next next →
+      walk form k s at state m ≡ walk form (suc (length s)) s 0 start before → met_from k s at m ≡ met_from (suc (length s)) s 0 before → judge form state m s at ≡ Ok next →
       Going form s before next (at + 1 + body_length (get_or s at 0)) (met_at s at m)
   going-by state at m next zero l w p e f j = absurd (omega arith)
   going-by state at m next (suc k) l w p e f j =
@@ -73,16 +73,16 @@ module _ (form : Form) (s : List ℕ) (before : Memory) where
         met = sym (met_next s k at m (lt-ltb _ _ l)) ∙ f;
       }
 
-  pub going_next : (state : State) (at : ℕ) (m : Memory) (next : State) → Going form s before state at m → at < length s → judge form state m s at ≡ Next next →
+  pub going_next : (state : State) (at : ℕ) (m : Memory) (next : State) → Going form s before state at m → at < length s → judge form state m s at ≡ Ok next →
       Going form s before next (at + 1 + body_length (get_or s at 0)) (met_at s at m)
   going_next state at m next g l j = going-by state at m next g.fuel l g.counted g.enough g.same g.met j
 
   bad-by : (state : State) (at : ℕ) (m : Memory) (fault : Fault) (k : ℕ) → at < length s → length s - at < k →
-      judge form state m s at ≡ Bad fault → walk form k s at state m ≡ refused form fault at
+      judge form state m s at ≡ Err fault → walk form k s at state m ≡ refused form fault at
   bad-by state at m fault zero l p j = absurd (omega arith)
   bad-by state at m fault (suc k) l p j = walk-bad form s k at state m fault (lt-ltb _ _ l) j
 
-  pub going-bad : (state : State) (at : ℕ) (m : Memory) (fault : Fault) → Going form s before state at m → at < length s → judge form state m s at ≡ Bad fault →
+  pub going-bad : (state : State) (at : ℕ) (m : Memory) (fault : Fault) → Going form s before state at m → at < length s → judge form state m s at ≡ Err fault →
       refused form fault at ≡ walk form (suc (length s)) s 0 start before
   going-bad state at m fault g l j = sym (bad-by state at m fault g.fuel l g.enough j) ∙ g.same
 

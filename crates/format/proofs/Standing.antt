@@ -15,8 +15,7 @@ use Rattle.format.specs.declared.Form.{Form}
 use Rattle.format.specs.declared.Record.{Record}
 use Rattle.format.specs.declared.Fault.{Fault}
 use Rattle.format.specs.declared.Fault.TheVariants.{Kind}
-use Rattle.format.specs.declared.Judged.{Judged}
-use Rattle.format.specs.declared.Judged.TheVariants.{Next, Bad}
+use Rattle.std.specs.Prelude.{Result, Ok, Err}
 use Rattle.format.specs.Reading.{count_of, refused, body_length, record_at, after, judge, whole, finish, walk, start}
 use Rattle.format.specs.Format.{record_kind, encode_record, encode, Bytes}
 use Rattle.format.specs.Arities.{Memory, meets}
@@ -78,7 +77,7 @@ pub record Standing (form : Form) (m : Memory) (s : List ℕ) (at : ℕ) : Type 
 module _ (form : Form) (m : Memory) (s : List ℕ) (bytes : Bytes s) (short : length s ≤ pair form 32768 16387) (Said : Check → Type 0) where
   -- of a record that is refused, and of one that is missing
   abbrev pub OfRecord : Type 0
-  OfRecord = (at : ℕ) (h : Standing form m s at) (fault : Fault) → at < length s → judge form (reach start h.rs) (remember m h.rs) s at ≡ Bad fault → Said (refused form fault at)
+  OfRecord = (at : ℕ) (h : Standing form m s at) (fault : Fault) → at < length s → judge form (reach start h.rs) (remember m h.rs) s at ≡ Err fault → Said (refused form fault at)
 
   abbrev pub OfEnd : Type 0
   OfEnd = (h : Standing form m s (length s)) → s ≡ encode h.rs → whole (reach start h.rs) ≡ false → Said (refused form Kind (length s))
@@ -119,11 +118,11 @@ module _ (form : Form) (m : Memory) (s : List ℕ) (bytes : Bytes s) (short : le
       )
 
   module _ (of_record : OfRecord) (of_end : OfEnd) where
-    answer-judged : (k at : ℕ) (h : Standing form m s at) (j : Judged) → at < length s → judge form (reach start h.rs) (remember m h.rs) s at ≡ j →
+    answer-judged : (k at : ℕ) (h : Standing form m s at) (j : Result State Fault) → at < length s → judge form (reach start h.rs) (remember m h.rs) s at ≡ j →
         ((next : State) → TakenAt form (reach start h.rs) (remember m h.rs) s at next → Answered (walk form k s (at + 1 + body_length (get_or s at 0)) next (met_at s at (remember m h.rs)))) →
         Answered (walk form (suc k) s at (reach start h.rs) (remember m h.rs))
-    answer-judged k at h (Next next) l e rest = rw (walk-next form s k at (reach start h.rs) next (remember m h.rs) (lt-ltb _ _ l) e) (rest next (taken form (reach start h.rs) (remember m h.rs) s at next e))
-    answer-judged k at h (Bad fault) l e rest = rw (walk-bad form s k at (reach start h.rs) (remember m h.rs) fault (lt-ltb _ _ l) e) (inr (of_record at h fault l e))
+    answer-judged k at h (Ok next) l e rest = rw (walk-next form s k at (reach start h.rs) next (remember m h.rs) (lt-ltb _ _ l) e) (rest next (taken form (reach start h.rs) (remember m h.rs) s at next e))
+    answer-judged k at h (Err fault) l e rest = rw (walk-bad form s k at (reach start h.rs) (remember m h.rs) fault (lt-ltb _ _ l) e) (inr (of_record at h fault l e))
 
     answered : (k at : ℕ) (h : Standing form m s at) → at ≤ length s → length s - at < k → Answered (walk form k s at (reach start h.rs) (remember m h.rs))
     answered zero at h l f = absurd (omega arith)

@@ -15,7 +15,7 @@ use Rattle.format.specs.declared.Record.{Record}
 use Rattle.format.specs.declared.Record.TheVariants.{Variable, Constant, Compound, Formula, Clause, Goal, End}
 use Rattle.format.specs.declared.Fault.{Fault}
 use Rattle.format.specs.declared.Fault.TheVariants.{Kind, Cut, Range, Size, Number, Arity}
-use Rattle.format.specs.declared.Judged.TheVariants.{Next, Bad}
+use Rattle.std.specs.Prelude.{Ok, Err}
 use Rattle.format.specs.Reading.{byte_limit, code_base, fault_number, allowed, body_length, record_at, in_range, is_in_size, is_in_order, next_unused, after, judge_record, judge, Small}
 use Rattle.format.specs.Arities.{Memory, keeps}
 use Rattle.format.proofs.Tests.{zero_one, and_both}
@@ -40,7 +40,7 @@ pub pick_small : (t : Bool) (a b k : ℕ) → a ≤ k → b ≤ k → (t ⇒ a �
 pick_small true a b k p q = p
 pick_small false a b k p q = q
 
-no_fault : {fault : Fault} (next : State) → Bad fault ≡ Next next → ⊥
+no_fault : {fault : Fault} (next : State) → Err fault ≡ Ok next → ⊥
 no_fault next e = zero_one (cc)
 
 -- a record that was taken passed each test, in whatever order they are made
@@ -51,7 +51,7 @@ pub record Taken (form : Form) (state : State) (m : Memory) (item : Record) (nex
   pub kept : keeps m item ≡ true
   pub then : next ≡ after state item
 
-pub taken_record : (form : Form) (state : State) (m : Memory) (item : Record) (next : State) → judge_record form state m item ≡ Next next → Taken form state m item next
+pub taken_record : (form : Form) (state : State) (m : Memory) (item : Record) (next : State) → judge_record form state m item ≡ Ok next → Taken form state m item next
 unfolding judge_record
 taken_record form state m item next e = by (in_range item) (is_in_size form state item) (is_in_order state item) (keeps m item) refl refl refl refl
   where
@@ -78,7 +78,7 @@ pub record TakenAt (form : Form) (state : State) (m : Memory) (s : List ℕ) (at
   pub body : body_length (get_or s at 0) < length s - at
   pub item : Taken form state m (record_at s at (get_or s at 0)) next
 
-pub taken : (form : Form) (state : State) (m : Memory) (s : List ℕ) (at : ℕ) (next : State) → judge form state m s at ≡ Next next → TakenAt form state m s at next
+pub taken : (form : Form) (state : State) (m : Memory) (s : List ℕ) (at : ℕ) (next : State) → judge form state m s at ≡ Ok next → TakenAt form state m s at next
 unfolding judge
 taken form state m s at next e = by (allowed form state (get_or s at 0)) (leb (length s - at) (body_length (get_or s at 0))) refl refl
   where

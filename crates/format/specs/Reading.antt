@@ -1,5 +1,5 @@
 -- What a check of a book or a query answers, record by record (document 01, "Records", "Sizes" and "Codes").
-use Rattle.std.specs.Prelude.{ℕ, zero, suc, ◌+◌, ◌-◌, ◌*◌, ◌≤◌, ◌≡◌, Bool, true, false, not, ◌&&◌, ◌||◌, List, length, get_or, eqb, leb, ltb}
+use Rattle.std.specs.Prelude.{ℕ, zero, suc, ◌+◌, ◌-◌, ◌*◌, ◌≤◌, ◌≡◌, Bool, true, false, not, ◌&&◌, ◌||◌, List, length, get_or, eqb, leb, ltb, Result, Ok, Err}
 use Rattle.terms.specs.When.{◌⇒◌∣◌}
 use Rattle.format.specs.declared.Check.{Check}
 use Rattle.format.specs.declared.State.{State}
@@ -9,8 +9,6 @@ use Rattle.format.specs.declared.Record.{Record}
 use Rattle.format.specs.declared.Record.TheVariants.{Variable, Constant, Compound, Formula, Clause, Goal, End}
 use Rattle.format.specs.declared.Fault.{Fault}
 use Rattle.format.specs.declared.Fault.TheVariants.{Kind, Cut, Range, Size, Number, Arity}
-use Rattle.format.specs.declared.Judged.{Judged}
-use Rattle.format.specs.declared.Judged.TheVariants.{Next, Bad}
 use Rattle.format.specs.Arities.{Memory, nothing_met, meets, keeps}
 
 -- Records
@@ -152,18 +150,18 @@ is_in_order state (Clause n) = true
 is_in_order state (Goal n) = true
 is_in_order state End = true
 
-unfoldable pub judge_record : Form → State → Memory → Record → Judged
+unfoldable pub judge_record : Form → State → Memory → Record → Result State Fault
 judge_record form state m item =
-    not (in_range item) ⇒ Bad Range
-    ∣ not (is_in_size form state item) ⇒ Bad Size
-    ∣ not (is_in_order state item) ⇒ Bad Number
-    ∣ not (keeps m item) ⇒ Bad Arity
-    ∣ Next (after state item)
+    not (in_range item) ⇒ Err Range
+    ∣ not (is_in_size form state item) ⇒ Err Size
+    ∣ not (is_in_order state item) ⇒ Err Number
+    ∣ not (keeps m item) ⇒ Err Arity
+    ∣ Ok (after state item)
 
-unfoldable pub judge : Form → State → Memory → List ℕ → ℕ → Judged
+unfoldable pub judge : Form → State → Memory → List ℕ → ℕ → Result State Fault
 judge form state m s at =
-    not (allowed form state (get_or s at 0)) ⇒ Bad Kind
-    ∣ leb (length s - at) (body_length (get_or s at 0)) ⇒ Bad Cut
+    not (allowed form state (get_or s at 0)) ⇒ Err Kind
+    ∣ leb (length s - at) (body_length (get_or s at 0)) ⇒ Err Cut
     ∣ judge_record form state m (record_at s at (get_or s at 0))
 
 -- The answer
@@ -177,9 +175,9 @@ unfoldable pub finish : Form → State → ℕ → Check
 finish form state end = whole state ⇒ record { code = 0; place = 0; count = count_of form state } ∣ refused form Kind end
 
 -- a record that was taken, and what is answered after it; or its fault: "Its place is the offset of its kind byte."
-abbrev pub go_further : Form → ℕ → Judged → (State → Check) → Check
-go_further form at (Next state) rest = rest state
-go_further form at (Bad fault) rest = refused form fault at
+abbrev pub go_further : Form → ℕ → Result State Fault → (State → Check) → Check
+go_further form at (Ok state) rest = rest state
+go_further form at (Err fault) rest = refused form fault at
 
 -- the records from a place on, k at most: "records are read in order and the first bad one decides"; "A missing record has the input's length as place."
 unfoldable pub walk : Form → ℕ → List ℕ → ℕ → State → Memory → Check

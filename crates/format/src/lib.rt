@@ -44,14 +44,8 @@ pub enum Fault {
     Arity,
 }
 
-// A record is taken, or refused.
-#[derive(Clone, Copy)]
-pub enum Judged {
-    Next(State),
-    Bad(Fault),
-}
-
-// "A check gives code, place and one count: the clauses of a good book, the nodes of a good query, else 0."
+// "A check gives code, place and one count: the clauses of a good book, the nodes of a good query, else 0." The code stays a number: it is document 01's,
+// which the theorems of the codes (specs/Cases) and C speak of.
 #[derive(Clone, Copy)]
 pub struct Check {
     pub code: u8,

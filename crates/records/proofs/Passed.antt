@@ -9,7 +9,7 @@ use lib.ListN.{length, get_or, set}
 use lib.Dec.{eqb}
 use Rattle.format.specs.declared.State.{State}
 use Rattle.format.specs.declared.Form.{Form}
-use Rattle.format.specs.declared.Judged.TheVariants.{Next}
+use Rattle.std.specs.Prelude.{Ok}
 use Rattle.format.specs.Reading.{body_length, number_at, record_at, allowed, in_range, is_in_size, is_in_order, next_unused, after_node, after, judge_record, judge, node_limit, variable_limit}
 use Rattle.format.specs.Arities.{Memory, meets, keeps, recalled}
 use Rattle.format.proofs.Taken.{Within, taken, within-later, after-within}
@@ -17,7 +17,6 @@ use Rattle.format.proofs.Going.{Going, going_next}
 use Rattle.records.specs.declared.passing.Open.{Open}
 use Rattle.records.specs.Passing.{Leads, there, taking, standing, Passes, PassesBelow, Ready, Counted}
 use Rattle.records.proofs.Tables.{other_at, entry-written}
-use Rattle.records.proofs.Turns.{met_all}
 
 -- One node
 
@@ -28,29 +27,29 @@ module _ (form : Form) (state : State) (m : Memory) (s : List ℕ) (at : ℕ) (f
   cut_3 : 3 < length s - at
   cut_3 = omega arith
 
-  pub constant-taken : 0 < state.terms → get_or s at 0 ≡ 2 → judge form state m s at ≡ Next (after_node state (state.terms - 1) state.formulas state.variables)
+  pub constant-taken : 0 < state.terms → get_or s at 0 ≡ 2 → judge form state m s at ≡ Ok (after_node state (state.terms - 1) state.formulas state.variables)
   unfolding judge judge_record allowed body_length record_at in_range is_in_size is_in_order keeps after
   constant-taken t e = simp (e, lt-ltb _ _ t, lt-leb _ _ cut_2, lt-ltb _ _ few)
 
   pub variable-taken : (v : ℕ) → 0 < state.terms → get_or s at 0 ≡ 1 → v ≡ number_at s (at + 1) → v < variable_limit form → v ≤ state.variables →
-      judge form state m s at ≡ Next (after_node state (state.terms - 1) state.formulas (next_unused state.variables v))
+      judge form state m s at ≡ Ok (after_node state (state.terms - 1) state.formulas (next_unused state.variables v))
   unfolding judge judge_record allowed body_length record_at in_range is_in_size is_in_order keeps after
   variable-taken v t e p l q = simp (e, lt-ltb _ _ t, lt-leb _ _ cut_2, lt-ltb _ _ few, inv p, lt-ltb _ _ l, le-leb _ _ q)
 
   pub compound-taken : 0 < state.terms → get_or s at 0 ≡ 3 → (get_or s (at + 3) 0 ≡ 0 → ⊥) → get_or s (at + 3) 0 ≤ 8 →
-      judge form state m s at ≡ Next (after_node state (state.terms - 1 + get_or s (at + 3) 0) state.formulas state.variables)
+      judge form state m s at ≡ Ok (after_node state (state.terms - 1 + get_or s (at + 3) 0) state.formulas state.variables)
   unfolding judge judge_record allowed body_length record_at in_range is_in_size is_in_order keeps after
   compound-taken t e z q =
       let one : 1 ≤ get_or s (at + 3) 0 = omega arith in
       simp (e, lt-ltb _ _ t, lt-leb _ _ cut_3, lt-ltb _ _ few, le-leb _ _ one, le-leb _ _ q)
 
   pub formula-taken : (p : ℕ) → state.terms ≡ 0 → 0 < state.formulas → get_or s at 0 ≡ 4 → p ≡ number_at s (at + 1) → get_or s (at + 3) 0 ≤ 8 →
-      (eqb (m p) 0 || eqb (m p) (get_or s (at + 3) 0 + 1)) ≡ true → judge form state m s at ≡ Next (after_node state (get_or s (at + 3) 0) (state.formulas - 1) state.variables)
+      (eqb (m p) 0 || eqb (m p) (get_or s (at + 3) 0 + 1)) ≡ true → judge form state m s at ≡ Ok (after_node state (get_or s (at + 3) 0) (state.formulas - 1) state.variables)
   unfolding judge judge_record allowed body_length record_at in_range is_in_size is_in_order keeps after
   formula-taken p z f e i q k = simp (e, z, lt-ltb _ _ f, lt-leb _ _ cut_3, lt-ltb _ _ few, inv i, le-leb _ _ q, k)
 
 module _ (form : Form) (s : List ℕ) where
-  one : {state next : State} {at end : ℕ} {m left : Memory} → at < length s → judge form state m s at ≡ Next next → at + 1 + body_length (get_or s at 0) ≡ end →
+  one : {state next : State} {at end : ℕ} {m left : Memory} → at < length s → judge form state m s at ≡ Ok next → at + 1 + body_length (get_or s at 0) ≡ end →
       meets m (record_at s at (get_or s at 0)) ≡ left → Leads form s next end left state at m
   one l j e f = taking l j (rw (e, f) there)
 
@@ -109,11 +108,11 @@ module _ (s : List ℕ) (x : Open) (ready : Ready s x) where
     }
 
   pub passes-formula : (table : List ℕ) (p : ℕ) (kept : Bool) (form : Form) → x.nodes < node_limit form → x.terms ≡ 0 → 0 < x.formulas → get_or s x.at 0 ≡ 4 → p ≡ number_at s (x.at + 1) →
-      get_or s (x.at + 3) 0 ≤ 8 → p < length table → kept ≡ (eqb (get_or table p 0) 0 || eqb (get_or table p 0) (get_or s (x.at + 3) 0 + 1)) → not kept ≡ false →
+      get_or s (x.at + 3) 0 ≤ 8 → p < length table → kept ≡ (eqb (get_or table p 0) 0 || eqb (get_or table p 0) (get_or s (x.at + 3) 0 + 1)) → kept ≡ true →
       Passes form s x (recalled table) (onward x 4 (get_or s (x.at + 3) 0) (x.formulas - 1) x.variables) (recalled (set table p (get_or s (x.at + 3) 0 + 1)))
   passes-formula table p kept form few z f e i q l k t = record {
     leads = λ clauses closed.
-        one form s inside (formula-taken form (standing x clauses closed) (recalled table) s x.at few ready.four p z f e i q (inv k ∙ met_all kept t)) (past_3 form s x.at (body_4 e))
+        one form s inside (formula-taken form (standing x clauses closed) (recalled table) s x.at few ready.four p z f e i q (inv k ∙ t)) (past_3 form s x.at (body_4 e))
         (inv (entry-written s x.at table p e i l));
   }
 

@@ -1,9 +1,8 @@
 -- What it means that records are passed over: the definition takes each of them. The pass keeps five numbers and not a whole state, since the clauses so far and whether the
 -- end was read stay as they are from one node to the next: so what is said of it holds for all values of those two.
-use Rattle.std.specs.Prelude.{ℕ, ◌+◌, ◌*◌, ◌≤◌, ◌<◌, ◌≡◌, Bool, List, length, get_or}
+use Rattle.std.specs.Prelude.{ℕ, ◌+◌, ◌*◌, ◌≤◌, ◌<◌, ◌≡◌, Bool, List, length, get_or, Ok}
 use Rattle.format.specs.declared.State.{State}
 use Rattle.format.specs.declared.Form.{Form}
-use Rattle.format.specs.declared.Judged.TheVariants.{Next}
 use Rattle.format.specs.Reading.{body_length, record_at, judge, node_limit, variable_limit}
 use Rattle.format.specs.Arities.{Memory, meets}
 use Rattle.records.specs.declared.passing.Open.{Open}
@@ -11,7 +10,7 @@ use Rattle.records.specs.declared.passing.Open.{Open}
 -- some records, or none, each of them taken, lead from a state, a place and a memory to the last ones
 pub data Leads (form : Form) (s : List ℕ) (last : State) (end : ℕ) (left : Memory) : State → ℕ → Memory → Type 0 where
   there : Leads form s last end left last end left
-  taking : {state next : State} {at : ℕ} {m : Memory} → at < length s → judge form state m s at ≡ Next next →
+  taking : {state next : State} {at : ℕ} {m : Memory} → at < length s → judge form state m s at ≡ Ok next →
       Leads form s last end left next (at + 1 + body_length (get_or s at 0)) (meets m (record_at s at (get_or s at 0))) → Leads form s last end left state at m
 
 abbrev pub standing : Open → ℕ → Bool → State

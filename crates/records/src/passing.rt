@@ -1,6 +1,6 @@
 // Nodes that are plainly right are passed over in one loop, with no record made of them and no state; most records of a book or a query are such.
 // What is not plainly right is left where it is, for the tests of judging to decide: a fault, a node in the last bytes, a predicate number past the table.
-ghost use Rattle.std.specs.Prelude.{◌≡◌, ◌<◌, get_or};
+ghost use Rattle.std.specs.Prelude.{◌≡◌, ◌<◌, get_or, IfSome, IfNone};
 ghost use Rattle.format.specs.Reading.{node_limit};
 ghost use Rattle.format.specs.declared.Form.{Form};
 ghost use Rattle.format.specs.Arities.{Memory, recalled};
@@ -42,115 +42,103 @@ pub fn resumed(x: Open, state: State) -> State
         formulas: x.formulas,
         nodes: x.nodes,
         variables: x.variables,
-        clauses: state.clauses,
-        closed: state.closed,
+        ..state
     }
 }
 
-fn pass_variable(bytes: &[u8], x: Open, most: usize) -> Open
+fn pass_variable(bytes: &[u8], x: Open, most: usize) -> Option<Open>
     requires ready { Ready bytes.now x }
     requires terms_nonzero { 0 < x.terms }
     requires at_value { get_or bytes.now x.at 0 ≡ 1 }
-    ensures { (m : Memory) → PassesBelow most bytes.now x m result m }
+    ensures passes { IfSome result (λ y. (m : Memory) → PassesBelow most bytes.now x m y m) }
+    ensures later { IfSome result (λ y. x.at < y.at) }
 {
-    let v = number_at(bytes, x.at + 1) as usize;
-    if most <= v {
-        return x;
+    let v = usize::from(number_at(bytes, x.at + 1));
+    if most <= v || x.variables < v {
+        return None;
     }
-    if x.variables < v {
-        return x;
-    }
-    Open {
+    Some(Open {
         at: x.at + 3,
         terms: x.terms - 1,
-        formulas: x.formulas,
         nodes: x.nodes + 1,
         variables: next_unused(x.variables, v),
-    }
+        ..x
+    })
 }
 
-fn pass_compound(bytes: &[u8], x: Open) -> Open
+fn pass_compound(bytes: &[u8], x: Open) -> Option<Open>
     requires ready { Ready bytes.now x }
     requires terms_nonzero { 0 < x.terms }
     requires at_value { get_or bytes.now x.at 0 ≡ 3 }
-    ensures { (m : Memory) (form : Form) → x.nodes < node_limit form → Passes form bytes.now x m result m }
+    ensures passes { IfSome result (λ y. (m : Memory) (form : Form) → x.nodes < node_limit form → Passes form bytes.now x m y m) }
+    ensures later { IfSome result (λ y. x.at < y.at) }
 {
-    let arity = bytes[x.at + 3] as usize;
-    if arity == 0 {
-        return x;
+    let arity = usize::from(bytes[x.at + 3]);
+    if arity == 0 || 8 < arity {
+        return None;
     }
-    if 8 < arity {
-        return x;
-    }
-    Open {
+    Some(Open {
         at: x.at + 4,
         terms: x.terms - 1 + arity,
-        formulas: x.formulas,
         nodes: x.nodes + 1,
-        variables: x.variables,
-    }
+        ..x
+    })
 }
 
-fn pass_term(bytes: &[u8], x: Open, most: usize) -> Open
+fn pass_term(bytes: &[u8], x: Open, most: usize) -> Option<Open>
     requires ready { Ready bytes.now x }
     requires terms_nonzero { 0 < x.terms }
-    ensures { (m : Memory) → PassesBelow most bytes.now x m result m }
+    ensures passes { IfSome result (λ y. (m : Memory) → PassesBelow most bytes.now x m y m) }
+    ensures later { IfSome result (λ y. x.at < y.at) }
 {
-    let at = x.at;
-    let kind = bytes[at];
-    if kind == 2 {
-        return Open {
-            at: at + 3,
-            terms: x.terms - 1,
-            formulas: x.formulas,
-            nodes: x.nodes + 1,
-            variables: x.variables,
-        };
+    match bytes[x.at] {
+        1 => pass_variable(bytes, x, most),
+        2 => {
+            Some(Open {
+                at: x.at + 3,
+                terms: x.terms - 1,
+                nodes: x.nodes + 1,
+                ..x
+            })
+        }
+        3 => pass_compound(bytes, x),
+        _ => None,
     }
-    if kind == 1 {
-        return pass_variable(bytes, x, most);
-    }
-    if kind == 3 {
-        return pass_compound(bytes, x);
-    }
-    x
 }
 
-fn pass_formula(bytes: &[u8], table: &mut [u8], x: Open) -> Open
+fn pass_formula(bytes: &[u8], table: &mut [u8], x: Open) -> Option<Open>
     requires ready { Ready bytes.now x }
     requires terms_value { x.terms ≡ 0 }
     requires formulas_nonzero { 0 < x.formulas }
-    ensures { (form : Form) → x.nodes < node_limit form → Passes form bytes.now x (recalled table.old) result (recalled table.new) }
+    ensures passes { IfSome result (λ y. (form : Form) → x.nodes < node_limit form → Passes form bytes.now x (recalled table.old) y (recalled table.new)) }
+    ensures later { IfSome result (λ y. x.at < y.at) }
+    ensures kept { IfNone result (table.new ≡ table.old) }
 {
     let at = x.at;
-    if bytes[at] != 4 {
-        return x;
-    }
     let arity = bytes[at + 3];
-    if 8 < arity {
-        return x;
+    if bytes[at] != 4 || 8 < arity {
+        return None;
     }
-    let p = number_at(bytes, at + 1) as usize;
-    if table.len() <= p {
-        return x;
-    }
-    let met = table[p];
-    if !same(met, arity) {
-        return x;
+    let p = usize::from(number_at(bytes, at + 1));
+    if table.len() <= p || !same(table[p], arity) {
+        return None;
     }
     table[p] = arity + 1;
-    Open {
+    Some(Open {
         at: at + 4,
-        terms: arity as usize,
+        terms: usize::from(arity),
         formulas: x.formulas - 1,
         nodes: x.nodes + 1,
-        variables: x.variables,
-    }
+        ..x
+    })
 }
 
-fn pass_node(bytes: &[u8], table: &mut [u8], x: Open, most: usize) -> Open
+// One node, or None where it is not plainly right.
+fn pass_node(bytes: &[u8], table: &mut [u8], x: Open, most: usize) -> Option<Open>
     requires { Ready bytes.now x }
-    ensures { PassesBelow most bytes.now x (recalled table.old) result (recalled table.new) }
+    ensures passes { IfSome result (λ y. PassesBelow most bytes.now x (recalled table.old) y (recalled table.new)) }
+    ensures later { IfSome result (λ y. x.at < y.at) }
+    ensures kept { IfNone result (table.new ≡ table.old) }
 {
     if 0 < x.terms {
         return pass_term(bytes, x, most);
@@ -158,7 +146,7 @@ fn pass_node(bytes: &[u8], table: &mut [u8], x: Open, most: usize) -> Open
     if 0 < x.formulas {
         return pass_formula(bytes, table, x);
     }
-    x
+    None
 }
 
 pub fn pass_nodes(form: Form, bytes: &[u8], table: &mut [u8], from: Open) -> Open
@@ -167,22 +155,16 @@ pub fn pass_nodes(form: Form, bytes: &[u8], table: &mut [u8], from: Open) -> Ope
 {
     let most = variable_limit(form);
     let limit = node_limit(form);
-    if bytes.len() < 4 {
+    // the last place that a node of four bytes may have, found once
+    let Some(last) = bytes.len().checked_sub(4) else {
         return from;
-    }
-    let last = bytes.len() - 4; // the last place that a node of four bytes may have, found once
+    };
     let mut x = from;
-    loop {
-        if limit <= x.nodes {
+    while x.nodes < limit && x.at <= last {
+        let Some(y) = pass_node(bytes, table, x, most) else {
             return x;
-        }
-        if last < x.at {
-            return x;
-        }
-        let y = pass_node(bytes, table, x, most);
-        if y.at == x.at {
-            return y;
-        }
+        };
         x = y;
     }
+    x
 }
