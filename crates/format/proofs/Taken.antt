@@ -16,17 +16,13 @@ use Rattle.format.specs.declared.Record.TheVariants.{Variable, Constant, Compoun
 use Rattle.format.specs.declared.Fault.{Fault}
 use Rattle.format.specs.declared.Fault.TheVariants.{Kind, Cut, Range, Size, Number, Arity}
 use Rattle.std.specs.Prelude.{Ok, Err}
-use Rattle.format.specs.Reading.{byte_limit, code_base, fault_number, allowed, body_length, record_at, in_range, is_in_size, is_in_order, next_unused, after, judge_record, judge, Small}
+use Rattle.format.specs.Reading.{code_base, fault_number, allowed, body_length, record_at, in_range, is_in_size, is_in_order, next_unused, after, judge_record, judge, Small}
 use Rattle.format.specs.Arities.{Memory, keeps}
 use Rattle.format.proofs.Tests.{zero_one, and_both}
 
 pub base-small : (form : Form) → code_base form ≤ 10
 base-small Book = zero-le
 base-small Query = lit≤ tt
-
-pub limit-small : (form : Form) → byte_limit form ≤ 32768
-limit-small Book = lit≤ tt
-limit-small Query = lit≤ tt
 
 pub number_small : (fault : Fault) → fault_number fault ≤ 7
 number_small Kind = lit≤ tt

@@ -1,6 +1,3 @@
-use borrow.Author.Rules.{rules}
-use Rattle.format.specs.Arities.{recalled}
-use Rattle.format.proofs.Going.{Going}
 use Rattle.records.proofs.Turns.{says, turns, turn-next}
 use Rattle.records.proofs.Passed.{counted-there, further, going-passed}
 use Rattle.records.proofs.walk.Goals as goal

@@ -1,4 +1,3 @@
-use mathlib.Core.Path.{refl}
 use Rattle.records.proofs.Passed.{stays, passes-below, passes-again, counted-on}
 use Rattle.records.proofs.passing.pass_nodes.Goals as goal
 
