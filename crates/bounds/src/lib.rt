@@ -118,13 +118,7 @@ fn plain_size(heap: &[u32], cells: &[u16], p: usize, limit: usize) -> Option<Siz
 }
 
 // Most rows say it by their own words, and need no walk.
-fn row_size(
-    heap: &[u32],
-    cells: &[u16],
-    levels: &mut [u16],
-    p: usize,
-    limit: usize,
-) -> Option<Size>
+fn row_size(heap: &[u32], cells: &[u16], levels: &mut [u16], p: usize, limit: usize) -> Option<Size>
     requires made { Made heap.now cells.now × Whole heap.now 1 p }
     requires limit_bound { (limit ≤ 8192) × (514 ≤ length levels.old) }
     ensures { IfSome result (Sized heap.now cells.now p 1 limit) }

@@ -19,6 +19,9 @@ use Rattle.bounds.specs.declared.clauses.Thrift.{Thrift}
 use Rattle.figures.specs.Figures.{first_of, Leads, FigureOf, figure_in, Slot, KeptAt, SlotAt, Figured}
 use Rattle.figures.specs.declared.Figure.{Figure}
 
+pub known-most : (n m : ℕ) → m ≤ 65535 → ((n ≡ 65535 → ⊥) → n ≤ m) → n ≤ 65535
+known-most n m l h = elim (ℕ_discrete n 65535) [ yes e ↦ omega (arith, e) | no x ↦ omega (arith, h x, l) ]
+
 -- the first formula of the body, where it stands
 none : (g : Goal) → 0 ≡ length g → 0 ≡ length (first_of g)
 none [] e = refl
@@ -90,9 +93,9 @@ pub pack-none : (f : ℕ) → f ≤ 255 → figure_in 65535 (f * 128) ≡ with-n
 pack-none f l = ap with-none (omega (arith, l))
 
 -- its thrift is small
-pub thrift-small : {clause : List ℕ} {head first : ℕ} (o : Option Thrift) → IfSome o (Thrifts clause head first) → IfSome o (λ t. (t.fresh ≤ 256) × (t.names ≤ 64))
-thrift-small (Some t) x = (x.small, x.few)
-thrift-small None x = x
+pub thrift-small : (clause : List ℕ) (head first : ℕ) (o : Option Thrift) → IfSome o (Thrifts clause head first) → IfSome o (λ t. (t.fresh ≤ 256) × (t.names ≤ 64))
+thrift-small clause head first (Some t) x = (x.small, x.few)
+thrift-small clause head first None x = x
 
 -- a figure that is kept already, and one that is put there
 module _ {clause : List ℕ} {head bodies : ℕ} (figures : List ℕ) (i : ℕ) {r : Figure} where

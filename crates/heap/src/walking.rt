@@ -53,11 +53,7 @@ fn within(levels: &mut [u16], w: Walk, p: usize, k: usize) -> Walk
 {
     let depth = w.depth;
     if w.due == 1 {
-        return Walk {
-            at: p,
-            due: k,
-            ..w
-        };
+        return Walk { at: p, due: k, ..w };
     }
     levels[2 * depth] = (w.at + 1) as u16;
     levels[2 * depth + 1] = (w.due - 1) as u16;

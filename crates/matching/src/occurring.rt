@@ -157,9 +157,5 @@ pub fn is_away(
     requires fuel_bound { (fuel ≤ 8448) × (514 ≤ length levels.old) }
     ensures { result ≡ true → Apart heap.now cells.now v p }
 {
-    weight.is_some()
-        || matches!(
-            occurs(heap, cells, levels, v, p, fuel),
-            Look::Away(_)
-        )
+    weight.is_some() || matches!(occurs(heap, cells, levels, v, p, fuel), Look::Away(_))
 }
