@@ -19,6 +19,7 @@ use Rattle.heapgoals.specs.Holding.{used, Holds}
 use Rattle.heapgoals.specs.HoldLaws.{Fore, fore-same, fore-after, holds-levels, holds-words, held-row, held_first}
 use Rattle.heapgoals.specs.declared.Standing.{Standing}
 use Rattle.bounds.specs.Sizing.{Weighed}
+use Rattle.std.specs.Prelude.{Option}
 use Rattle.bounds.specs.declared.Weight.{Weight}
 use Rattle.attempts.specs.Trying.{laid, HeldTrial, Tested, Sought}
 use Rattle.attempts.specs.declared.Attempt.{Attempt}
@@ -99,7 +100,7 @@ module _ {book shelf words₀ cells₀ rows₀ levels₀ stack₀ : List ℕ} {s
 
     module _ {P : Book} (o : BookOn book shelf P) {f : Expr} {g a : Goal} (h : Holds words₀ cells₀ levels₀ s (f ∷ g) a) (l : i < length P) (clause words' cells' tables : List ℕ) (is : clause ≡ clause_words book shelf (length P) i) (v : Attempt)
         (t : Tested f (clause_at P i) (take s.top words) clause words' cells s cells' tables v) where
-      pub found_here : (count : ℕ) (size : Weight) → v ≡ Fits-now count size → Sought P f book shelf (take s.top words₀) words' cells₀ s cells' tables (Seen.Clause i count size)
+      pub found_here : (count : ℕ) (size : Option Weight) → v ≡ Fits-now count size → Sought P f book shelf (take s.top words₀) words' cells₀ s cells' tables (Seen.Clause i count size)
       found_here count size e =
           let y = subst (Tested f (clause_at P i) (take s.top words) clause words' cells s cells' tables) e t in (
             picked-here f P 0 i (omega arith) l (k.passing P f g a o h l) y.0,

@@ -10,6 +10,7 @@ use lib.Seq.{ext_get_or, get_or-take, length-take-le, take_at, drop_at}
 use borrow.Rule.Slice.PartMut.{put_mid, same_len_mid}
 use Rattle.heap.specs.Heap.{bound}
 use Rattle.bounds.specs.Sizing.{Weighed}
+use Rattle.std.specs.Prelude.{Option}
 use Rattle.bounds.specs.declared.Weight.{Weight}
 use Rattle.matching.specs.Binding.{Trailed, trail-none}
 use Rattle.matching.specs.Unifying.{Begun, Unseen, TrailKept}
@@ -54,8 +55,8 @@ trail-back tables now l e =
     ∙ take_at now (drop 8448 (drop 16512 tables)) 8448 (e ∙ trail_long tables l)
 
 -- what was weighed with the part is weighed with the whole
-pub weighed-back : {heap cells now whole : List ℕ} {base base' count : ℕ} {size : Weight} → base ≡ base' → whole ≡ now → Weighed heap cells base now count size → Weighed heap cells base' whole count size
-weighed-back {heap} {cells} {whole = whole} {base = base} {count = count} {size} same is w = subst (λ n. Weighed heap cells n whole count size) same (subst (λ l. Weighed heap cells base l count size) (inv is) w)
+pub weighed-back : (heap cells : List ℕ) {now whole : List ℕ} {base base' : ℕ} (count : ℕ) (size : Option Weight) → base ≡ base' → whole ≡ now → Weighed heap cells base now count size → Weighed heap cells base' whole count size
+weighed-back heap cells {whole = whole} {base = base} count size same is w = subst (λ n. Weighed heap cells n whole count size) same (subst (λ l. Weighed heap cells base l count size) (inv is) w)
 
 module _ {heap before : List ℕ} {s : Standing} (x : IsSetUp heap before s) (tables cells now tables' : List ℕ) (count : ℕ) (is : trail tables' ≡ now) (t : Trial) (b : Starts s t) (k : TrailKept before (trail tables) t cells now count) (unseen : Unseen heap before cells) where
   kept : TrailKept before (trail tables) (start s b.0) cells now count

@@ -29,7 +29,7 @@ pub mod facts; // facts that need no trial
 // they are equal is more bound than before.
 #[derive(Clone, Copy)]
 pub enum Attempt {
-    Fits(usize, Weight),
+    Fits(usize, Option<Weight>),
     Clash,
     Tired,
 }
@@ -116,7 +116,7 @@ fn try_clause(
 // The first clause that fits, by its number, how many goal variables its trial has bound and what each of them stands for at most; or that it is a fact which stands there; or nothing is known.
 #[derive(Clone, Copy)]
 pub enum Found {
-    Clause(usize, usize, Weight),
+    Clause(usize, usize, Option<Weight>),
     Given(usize),
     Unsure,
 }

@@ -28,16 +28,6 @@ taking-start {a} {b} {counts} t = record {
 tally-thrifty : {a b : Expr} {counts : List ℕ} → Tally a b counts → Thrifty a b
 tally-thrifty t x n = omega (arith, t.some x n, t.left x n)
 
-pub thrift_lavish : {clause : List ℕ} {head first : ℕ} {r : Thrift} → Fits 64 clause → (r.fresh ≡ 65535) × (r.names ≡ 64) → Thrifts clause head first r
-thrift_lavish {clause} fits e = record {
-  few = omega (arith, e.1);
-  names = subst (λ k. Fits k clause) (inv e.1) fits;
-  small = λ n. absurd (n e.0);
-  fresh = λ n. absurd (n e.0);
-  thrifty = λ n. absurd (n e.0);
-  kept = λ n. absurd (n e.0);
-}
-
 module _ (clause : List ℕ) (head first p q s : ℕ) (ep : p ≡ head) (eq : q ≡ first - head) (es : s ≡ length clause - first) (l : head ≤ first) (short : length clause ≤ 256) where
   abbrev H : List ℕ
   H = take p clause
@@ -71,16 +61,15 @@ module _ (clause : List ℕ) (head first p q s : ℕ) (ep : p ≡ head) (eq : q 
   long : length B + length C ≤ 256
   long = omega (arith, length-take q (drop head clause), length-take s (drop first clause), length-drop head clause, length-drop first clause, eq, es, l, short)
 
-  module _ {counts₁ counts₂ counts₃ : List ℕ} {a : Noted} {b c : Taken} (x : Noting H counts₁ a) (y : Took B counts₁ start counts₂ b) (nb : b.fresh ≡ 65535 → ⊥) (z : Took C counts₂ start counts₃ c)
-      (nc : c.fresh ≡ 65535 → ⊥) where
+  module _ {counts₁ counts₂ counts₃ : List ℕ} {a : Noted} {b c : Taken} (x : Noting H counts₁ a) (y : Took B counts₁ start counts₂ b) (z : Took C counts₂ start counts₃ c) where
     took-b : Taking (nodes H) [] B counts₂ b
-    took-b = y.taken nb (nodes H) [] [] (taking-start x.tally)
+    took-b = y.taken (nodes H) [] [] (taking-start x.tally)
 
     took-c : Taking (nodes H) (nodes B) C counts₃ c
-    took-c = z.taken nc (nodes H) (nodes B) [] (taking-start took-b.tally)
+    took-c = z.taken (nodes H) (nodes B) [] (taking-start took-b.tally)
 
     pub both_small : b.fresh + c.fresh ≤ 256
-    both_small = omega (arith, y.more nb, z.more nc, long)
+    both_small = omega (arith, y.more, z.more, long)
 
     kept_b : b.matched ≡ a.places → Kept (nodes H) (nodes B)
     kept_b e = kept-matched (nodes H) (nodes B) (tally-thrifty took-b.tally) (omega (arith, took-b.matched, took-b.fresh)) (e ∙ x.places)
@@ -92,11 +81,11 @@ module _ (clause : List ℕ) (head first p q s : ℕ) (ep : p ≡ head) (eq : q 
       few = ek.2 64 x.few (em.2 64 took-b.few took-c.few);
       names = subst (Fits k) clause-is (each_append (Fit k) H (B ++ C) (fits_more a.names k H ek.0 x.names) (each_append (Fit k) B C
           (fits_more b.names k B (omega (arith, em.0, ek.1)) took-b.names) (fits_more c.names k C (omega (arith, em.1, ek.1)) took-c.names)));
-      small = λ n. both_small;
-      fresh = λ n.
+      small = both_small;
+      fresh =
           omega (arith, took-b.fresh, took-c.fresh, weigh-append (away (nodes H) (λ v. 1)) (nodes B) (nodes C))
           ∙ ap₂ (λ h e. fresh (nodes h) e) head-is body-nodes;
-      thrifty = λ n. subst (λ h. Thrifty (nodes h) (nodes (drop head clause))) head-is (subst (Thrifty (nodes H)) body-nodes (tally-thrifty took-c.tally));
-      kept = λ n e. subst (λ h. Kept (nodes h) (nodes (take (first - head) (drop head clause)))) head-is
+      thrifty = subst (λ h. Thrifty (nodes h) (nodes (drop head clause))) head-is (subst (Thrifty (nodes H)) body-nodes (tally-thrifty took-c.tally));
+      kept = λ e. subst (λ h. Kept (nodes h) (nodes (take (first - head) (drop head clause)))) head-is
           (subst (λ w. Kept (nodes H) (nodes w)) first-is (kept_b (eqb-true b.matched a.places (inv ew ∙ e))));
     }

@@ -1,5 +1,5 @@
 -- Nodes counted on a walk, and variables of a trail gone through.
-use Rattle.std.specs.Prelude.{ℕ, suc, ◌+◌, ◌-◌, ◌<◌, ◌≤◌, ◌≡◌, refl, List, [], ◌∷◌, length, get_or}
+use Rattle.std.specs.Prelude.{ℕ, suc, ◌+◌, ◌-◌, ◌<◌, ◌≤◌, ◌≡◌, refl, List, [], ◌∷◌, length, get_or, max}
 use Rattle.std.proofs.Common.{arith, sym as inv, ap, ◌∙◌, subst}
 use Rattle.std.proofs.Math.Decide.{ℕ_discrete, dec_lt}
 use Rattle.std.proofs.Math.ListN.{get_or-eq_default}
@@ -13,7 +13,7 @@ use Rattle.heap.specs.LoneLaws.{flat-ready}
 use Rattle.heap.specs.PartLaws.{ahead-alone}
 use Rattle.heap.specs.declared.walking.Walk.{Walk}
 use Rattle.bounds.specs.Places.{weigh, places}
-use Rattle.bounds.specs.Sizing.{Known, Sized, Bound, Grown}
+use Rattle.bounds.specs.Sizing.{Sized, Bound, Grown}
 use Rattle.bounds.specs.WeighLaws.{weigh-append}
 use Rattle.bounds.specs.declared.Size.{Size}
 
@@ -67,9 +67,9 @@ module _ {heap cells : List ℕ} {at due limit : ℕ} where
     pub count-end : w.due ≤ 0 → Sized heap cells at due limit (record { nodes = nodes; variables = variables })
     count-end z = record {
       few = x.few;
-      low = λ k. x.low;
-      long = λ k θ s. omega (arith, x.long θ s, ap length (nothing θ));
-      places = λ k. tally-end (λ v. 1) x.held x.ready z;
+      low = x.low;
+      long = λ θ s. omega (arith, x.long θ s, ap length (nothing θ));
+      places = tally-end (λ v. 1) x.held x.ready z;
     }
       where
         none : w.due ≡ 0
@@ -89,15 +89,19 @@ module _ {heap cells : List ℕ} {at due limit : ℕ} where
       held = tally-on (λ v. 1) x.held visit is ev;
     }
 
+-- What is at least two numbers, and no more than what they both are at most.
+pub larger-max : (a b : ℕ) {r : ℕ} → r ≡ max a b → (a ≤ r) × (b ≤ r) × ((m : ℕ) → a ≤ m → b ≤ m → r ≤ m)
+larger-max a b e = (omega (arith, e), omega (arith, e), λ m l h. omega (arith, e, l, h))
+
 -- One variable more of a trail.
 module _ {heap cells trail : List ℕ} where
   pub grown-start : {limit : ℕ} → 1 ≤ limit → Grown heap cells trail 0 limit (record { nodes = 1; variables = 0 })
   grown-start l = record {
     some = omega arith;
     few = omega arith;
-    low = λ k. l;
-    long = λ k i h. absurd (omega arith);
-    places = λ k i h. absurd (omega arith);
+    low = l;
+    long = λ i h. absurd (omega arith);
+    places = λ i h. absurd (omega arith);
   }
 
   pub grown-end : {count i n m limit : ℕ} → Grown heap cells trail i limit (record { nodes = n; variables = m }) → count ≤ i → i ≤ count
@@ -126,25 +130,22 @@ module _ {heap cells trail : List ℕ} where
         stands : (θ : Subst) → Solved heap cells θ → θ (get_or trail i 0) ≡ apply θ (rows heap 1 p)
         stands θ t = ap θ (inv ev) ∙ t.solves.stands v p row
 
-        pub grown-on : {n m limit : ℕ} → Grown heap cells trail i limit (record { nodes = n; variables = m }) → n ≤ limit → limit ≤ 8192 → {r : Size} → Sized heap cells p 1 limit r → Known r → {n' m' : ℕ}
+        pub grown-on : {n m limit : ℕ} → Grown heap cells trail i limit (record { nodes = n; variables = m }) → n ≤ limit → {r : Size} → Sized heap cells p 1 limit r → {n' m' : ℕ}
             → (n ≤ n') × (r.nodes ≤ n') × ((k : ℕ) → n ≤ k → r.nodes ≤ k → n' ≤ k) → (m ≤ m') × (r.variables ≤ m') × ((k : ℕ) → m ≤ k → r.variables ≤ k → m' ≤ k)
             → {j : ℕ} → j ≡ i + 1 → Grown heap cells trail j limit (record { nodes = n'; variables = m' }) × (n' ≤ limit)
-        grown-on {n} {m} {limit} g low high {r} s known {n'} {m'} a b {j} ej = (
+        grown-on {n} {m} {limit} g low {r} s {n'} {m'} a b {j} ej = (
           record {
             some = omega (arith, g.some, a.0);
             few = b.2 n' (omega (arith, g.few, a.0)) (omega (arith, s.few, a.1));
-            low = λ k. a.2 limit low (s.low known);
-            long = λ k x h θ t. elim (ℕ_discrete x i) [
-              | yes z ↦ omega (arith, a.1, s.long known θ t, ap length (stands θ t), ap (λ y. length (θ (get_or trail y 0))) z)
-              | no d ↦ omega (arith, a.0, g.long was x (omega (arith, h, d, ej)) θ t)
+            low = a.2 limit low s.low;
+            long = λ x h θ t. elim (ℕ_discrete x i) [
+              | yes z ↦ omega (arith, a.1, s.long θ t, ap length (stands θ t), ap (λ y. length (θ (get_or trail y 0))) z)
+              | no d ↦ omega (arith, a.0, g.long x (omega (arith, h, d, ej)) θ t)
             ];
-            places = λ k x h θ t. elim (ℕ_discrete x i) [
-              | yes z ↦ omega (arith, b.1, s.places known θ t, ap places (stands θ t), ap (λ y. places (θ (get_or trail y 0))) z)
-              | no d ↦ omega (arith, b.0, g.places was x (omega (arith, h, d, ej)) θ t)
+            places = λ x h θ t. elim (ℕ_discrete x i) [
+              | yes z ↦ omega (arith, b.1, s.places θ t, ap places (stands θ t), ap (λ y. places (θ (get_or trail y 0))) z)
+              | no d ↦ omega (arith, b.0, g.places x (omega (arith, h, d, ej)) θ t)
             ];
           },
-          a.2 limit low (s.low known),
+          a.2 limit low s.low,
         )
-          where
-            was : Known (record { nodes = n; variables = m })
-            was e = omega (arith, e, low, high)

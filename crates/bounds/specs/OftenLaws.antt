@@ -13,7 +13,7 @@ use Rattle.words.specs.WordLaws.{node-var, node-sym}
 use Rattle.words.specs.Flat.{flat, flat-rename}
 use Rattle.heap.specs.Heap.{Solved}
 use Rattle.bounds.specs.Places.{weigh, places, times, below, places_all, Seldom, total}
-use Rattle.bounds.specs.Sizing.{Known, Grown, comes, Weighs}
+use Rattle.bounds.specs.Sizing.{Grown, comes, Weighs}
 use Rattle.bounds.specs.WeighLaws.{gain, weigh-append, weigh-rename, weigh-more, weigh-none, weigh-add}
 use Rattle.bounds.specs.ThriftLaws.{mark, mark-same, mark-other, mark-most, out-times, except, except-same, except-other, weigh-split}
 use Rattle.bounds.specs.GoalLaws.{flat_in, places-flat}
@@ -107,7 +107,7 @@ pub grown-small : {heap cells trail : List ℕ} {count : ℕ} {x : Size} → Gro
 grown-small {count = count} {x} g few = omega (arith, mul-le-mul few small)
   where
     small : x.variables ≤ 65535
-    small = elim (ℕ_discrete x.nodes 65535) [ yes e ↦ omega (arith, g.few, e) | no n ↦ omega (arith, g.few, g.low n) ]
+    small = omega (arith, g.few, g.low)
 
 pub grown-weighs : {heap cells trail : List ℕ} {count : ℕ} {x : Size} → Grown heap cells trail count 4096 x → count ≤ 8448 → (base : ℕ) {m : ℕ} → (x.variables ≤ m) × (1 ≤ m) × ((k : ℕ) → x.variables ≤ k → 1 ≤ k → m ≤ k)
     → Weighs heap cells base trail count (record { nodes = x.nodes; variables = m; times = 1 + count * x.variables })
@@ -117,16 +117,16 @@ grown-weighs {heap} {cells} {trail} {count} {x} g few base {m} l = record {
     few = l.2 x.nodes g.few g.some;
     low = g.low;
     long = g.long;
-    places = λ k i h θ s. omega (arith, g.places k i h θ s, l.0);
+    places = λ i h θ s. omega (arith, g.places i h θ s, l.0);
   };
-  one = λ k. l.1;
-  old = λ k θ s y h. omega (arith, in_all k θ s y);
-  new = λ k θ s y h. omega (arith, in_all k θ s y);
+  one = l.1;
+  old = λ θ s y h. omega (arith, in_all θ s y);
+  new = λ θ s y h. omega (arith, in_all θ s y);
   room = omega (arith, grown-small g few);
 }
   where
-    in_all : Known x → (θ : Subst) → Solved heap cells θ → (y : ℕ) → comes θ trail count y ≤ count * x.variables
-    in_all k θ s y = total-most (λ i. times y (θ (get_or trail i 0))) x.variables count (λ j h. omega (arith, times-places y (θ (get_or trail j 0)), g.places k j h θ s))
+    in_all : (θ : Subst) → Solved heap cells θ → (y : ℕ) → comes θ trail count y ≤ count * x.variables
+    in_all θ s y = total-most (λ i. times y (θ (get_or trail i 0))) x.variables count (λ j h. omega (arith, times-places y (θ (get_or trail j 0)), g.places j h θ s))
 
 -- Under a substitution that leaves all variables but those of a trail as they are.
 module _ (E : Goal) (base M : ℕ) (low : (v : ℕ) → InAny v E → v < base) (seldom : Seldom M E) (σ θ : Subst) (agree : (v : ℕ) → InAny v E → σ v ≡ θ v) (trail : List ℕ) (count : ℕ)

@@ -33,17 +33,16 @@ pub record Taking (a b : Expr) (w counts : List ℕ) (t : Taken) : Type 0 where
   pub names : Fits t.names w
   pub few : t.names ≤ 64
 
--- the words `on` too, unless a count is used up
+-- the words `on` too
 pub record Took (on counts : List ℕ) (t : Taken) (counts' : List ℕ) (r : Taken) : Type 0 where
-  pub over : r.fresh ≡ 65535 → r.names ≡ 64
-  pub more : (r.fresh ≡ 65535 → ⊥) → r.matched + r.fresh ≤ t.matched + t.fresh + length on
-  pub taken : (r.fresh ≡ 65535 → ⊥) → (a b : Expr) (w : List ℕ) → Taking a b w counts t → Taking a b (w ++ on) counts' r
+  pub more : r.matched + r.fresh ≤ t.matched + t.fresh + length on
+  pub taken : (a b : Expr) (w : List ℕ) → Taking a b w counts t → Taking a b (w ++ on) counts' r
 
 -- What is said of a clause: its head is the first `head` words, and the first formula of its body ends at `first`.
 pub record Thrifts (clause : List ℕ) (head first : ℕ) (r : Thrift) : Type 0 where
   pub few : r.names ≤ 64
   pub names : Fits r.names clause
-  pub small : (r.fresh ≡ 65535 → ⊥) → r.fresh ≤ 256
-  pub fresh : (r.fresh ≡ 65535 → ⊥) → r.fresh ≡ fresh (nodes (take head clause)) (nodes (drop head clause))
-  pub thrifty : (r.fresh ≡ 65535 → ⊥) → Thrifty (nodes (take head clause)) (nodes (drop head clause))
-  pub kept : (r.fresh ≡ 65535 → ⊥) → r.whole ≡ true → Kept (nodes (take head clause)) (nodes (take (first - head) (drop head clause)))
+  pub small : r.fresh ≤ 256
+  pub fresh : r.fresh ≡ fresh (nodes (take head clause)) (nodes (drop head clause))
+  pub thrifty : Thrifty (nodes (take head clause)) (nodes (drop head clause))
+  pub kept : r.whole ≡ true → Kept (nodes (take head clause)) (nodes (take (first - head) (drop head clause)))

@@ -58,11 +58,10 @@ module _ {u : ℕ} (fit : Fit 64 u) where
       few = x.few;
     }
 
-    pub take-symbol : {counts : List ℕ} {t : Taken} → t.matched + t.fresh ≤ 256 → Took (u ∷ []) counts t counts t
-    take-symbol {t = t} small = record {
-      over = λ e. absurd (omega (arith, e, small));
-      more = λ n. omega arith;
-      taken = λ n a b w x. record {
+    pub take-symbol : {counts : List ℕ} {t : Taken} → Took (u ∷ []) counts t counts t
+    take-symbol {t = t} = record {
+      more = omega arith;
+      taken = λ a b w x. record {
         tally = tally-like x.tally (λ y. refl) (λ y. nothing (λ v. mark y v) b w);
         fresh = x.fresh ∙ inv (nothing (away a (λ v. 1)) [] w);
         matched = x.matched ∙ inv (nothing (λ v. 1) [] w);
@@ -180,12 +179,11 @@ module _ {u : ℕ} (fit : Fit 64 u) where
         few = names-few k y.few;
       }
 
-      module _ {k : ℕ} {t : Taken} (names : (t.names ≤ k) × (x + 1 ≤ k) × ((j : ℕ) → t.names ≤ j → x + 1 ≤ j → k ≤ j)) (small : t.matched + t.fresh ≤ 256) where
+      module _ {k : ℕ} {t : Taken} (names : (t.names ≤ k) × (x + 1 ≤ k) × ((j : ℕ) → t.names ≤ j → x + 1 ≤ j → k ≤ j)) where
         pub take-fresh : {g : ℕ} → g ≡ get_or counts x 0 → g ≡ 0 → Took (u ∷ []) counts t counts (record { matched = t.matched; fresh = t.fresh + 1; names = k })
         take-fresh eg ez = record {
-          over = λ z. absurd (omega (arith, z, small));
-          more = λ n. omega arith;
-          taken = λ n a b w y. record {
+          more = omega arith;
+          taken = λ a b w y. record {
             tally = tally-fresh a b w y.tally (inv eg ∙ ez);
             fresh = omega (arith, y.fresh, more-at (away a (λ v. 1)) [] w, away-out a b (λ v. 1) x (absent a b w y.tally (inv eg ∙ ez)));
             matched = omega (arith, y.matched, more-at (λ v. 1) [] w);
@@ -197,9 +195,8 @@ module _ {u : ℕ} (fit : Fit 64 u) where
         pub take-matched : {g : ℕ} → g ≡ get_or counts x 0 → (g ≡ 0 → ⊥) → (g ≡ 1 → ⊥) → {z : ℕ} → z ≡ g - 1
             → Took (u ∷ []) counts t (set counts x z) (record { matched = t.matched + 1; fresh = t.fresh; names = k })
         take-matched eg n₀ n₁ ez = record {
-          over = λ z. absurd (omega (arith, z, small));
-          more = λ n. omega arith;
-          taken = λ n a b w y. record {
+          more = omega arith;
+          taken = λ a b w y. record {
             tally = tally-take a b w y.tally (λ z. n₀ (eg ∙ z)) (λ z. n₁ (eg ∙ z)) (omega (arith, eg, ez));
             fresh = omega (arith, y.fresh, more-at (away a (λ v. 1)) [] w, away-in a b (λ v. 1) x (present a b w y.tally (λ z. n₀ (eg ∙ z))));
             matched = omega (arith, y.matched, more-at (λ v. 1) [] w);
@@ -207,6 +204,3 @@ module _ {u : ℕ} (fit : Fit 64 u) where
             few = names-few names y.few;
           };
         }
-
-pub take-over : {on counts counts' : List ℕ} {t r : Taken} → (r.fresh ≡ 65535) × (r.names ≡ 64) → Took on counts t counts' r
-take-over e = record { over = λ z. e.1; more = λ n. absurd (n e.0); taken = λ n. absurd (n e.0) }

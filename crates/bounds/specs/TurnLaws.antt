@@ -34,18 +34,16 @@ note_small {w} {counts} y l = (
   ],
 )
 
-pub take_none : (counts : List ℕ) (t : Taken) → (t.fresh ≡ 65535 → ⊥) → Took [] counts t counts t
-take_none counts t n = record {
-  over = λ z. absurd (n z);
-  more = λ m. omega arith;
-  taken = λ m a b w y. subst (λ l. Taking a b l counts t) (inv (append-nil w)) y;
+pub take_none : (counts : List ℕ) (t : Taken) → Took [] counts t counts t
+take_none counts t = record {
+  more = omega arith;
+  taken = λ a b w y. subst (λ l. Taking a b l counts t) (inv (append-nil w)) y;
 }
 
-pub take-append : {on on' counts counts' counts'' : List ℕ} {t t' r : Taken} → Took on counts t counts' t' → (t'.fresh ≡ 65535 → ⊥) → Took on' counts' t' counts'' r → Took (on ++ on') counts t counts'' r
-take-append {on} {on'} {counts'' = counts''} {r = r} p n q = record {
-  over = q.over;
-  more = λ m. omega (arith, p.more n, q.more m, length-append on on');
-  taken = λ m a b w y. subst (λ l. Taking a b l counts'' r) (append_assoc w on on') (q.taken m a b (w ++ on) (p.taken n a b w y));
+pub take-append : {on on' counts counts' counts'' : List ℕ} {t t' r : Taken} → Took on counts t counts' t' → Took on' counts' t' counts'' r → Took (on ++ on') counts t counts'' r
+take-append {on} {on'} {counts'' = counts''} {r = r} p q = record {
+  more = omega (arith, p.more, q.more, length-append on on');
+  taken = λ a b w y. subst (λ l. Taking a b l counts'' r) (append_assoc w on on') (q.taken a b (w ++ on) (p.taken a b w y));
 }
 
 -- the word number i
@@ -56,8 +54,8 @@ module _ (words : List ℕ) (i : ℕ) {j u : ℕ} (is : u ≡ get_or words i 0) 
   pub note_next : {counts counts' : List ℕ} {n r : Noted} → Noting (take i words) counts n → NotedOn u counts n counts' r → Noting (take j words) counts' r
   note_next {counts' = counts'} {r = r} y on = subst (λ w. Noting w counts' r) one_more (on (take i words) y)
 
-  pub take_next : {counts₀ counts counts' : List ℕ} {t₀ t r : Taken} → Took (take i words) counts₀ t₀ counts t → (t.fresh ≡ 65535 → ⊥) → Took (u ∷ []) counts t counts' r → Took (take j words) counts₀ t₀ counts' r
-  take_next {counts₀} {counts' = counts'} {t₀} {r = r} y n on = subst (λ w. Took w counts₀ t₀ counts' r) one_more (take-append y n on)
+  pub take_next : {counts₀ counts counts' : List ℕ} {t₀ t r : Taken} → Took (take i words) counts₀ t₀ counts t → Took (u ∷ []) counts t counts' r → Took (take j words) counts₀ t₀ counts' r
+  take_next {counts₀} {counts' = counts'} {t₀} {r = r} y on = subst (λ w. Took w counts₀ t₀ counts' r) one_more (take-append y on)
 
 -- all words
 pub note_end : {words counts : List ℕ} {n : Noted} (i : ℕ) → length words ≤ i → Noting (take i words) counts n → Noting words counts n

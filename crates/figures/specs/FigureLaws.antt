@@ -1,7 +1,8 @@
 -- Laws of figures.
-use Rattle.std.specs.Prelude.{ℕ, suc, ◌+◌, ◌*◌, ◌-◌, ◌/◌, ◌%◌, ◌≤◌, ◌<◌, ◌≡◌, refl, true, false, List, [], ◌∷◌, length, get_or, set, take, drop, replicate}
-use Rattle.std.proofs.Common.{arith, sym as inv, ap, ◌∙◌, subst, inl, inr, length-set, length-append, drop_at, get_or-set_same, get_or-set_other, lt-ltb, le-ltb}
+use Rattle.std.specs.Prelude.{ℕ, suc, ◌+◌, ◌*◌, ◌-◌, ◌/◌, ◌%◌, ◌≤◌, ◌<◌, ◌≡◌, refl, true, false, List, [], ◌∷◌, length, get_or, set, take, drop, replicate, eqb, Option, Some, None, IfSome}
+use Rattle.std.proofs.Common.{arith, sym as inv, ap, ◌∙◌, subst, inl, inr, length-set, length-append, drop_at, get_or-set_same, get_or-set_other, lt-ltb, le-ltb, eqb-true}
 use Rattle.std.proofs.Math.Decide.{ℕ_discrete}
+use Rattle.std.proofs.lemmas.Bool.{false_from_ne_true}
 use Rattle.terms.specs.Row.{Row, Formulas}
 use Rattle.terms.specs.RowLaws.{first-row, row-long}
 use Rattle.terms.specs.Argument.{firsts}
@@ -12,7 +13,9 @@ use Rattle.words.specs.Flat.{flat}
 use Rattle.words.specs.Held.{ClauseIn}
 use Rattle.words.specs.HeldLaws.{head-length}
 use Rattle.heap.specs.Heap.{rows, Whole}
+use Rattle.bounds.specs.Tally.{Thrifts}
 use Rattle.bounds.specs.TurnLaws.{zeros}
+use Rattle.bounds.specs.declared.clauses.Thrift.{Thrift}
 use Rattle.figures.specs.Figures.{first_of, Leads, FigureOf, figure_in, Slot, KeptAt, SlotAt, Figured}
 use Rattle.figures.specs.declared.Figure.{Figure}
 
@@ -68,14 +71,31 @@ module _ (f n : ℕ) (lf : f ≤ 255) (ln : n ≤ 64) where
   pub names-whole-back : (32768 + (f * 128 + n)) % 128 ≡ n
   names-whole-back = omega (arith, lf, ln)
 
-pub pack_whole : (x : Figure) → x.first ≤ 255 → x.names ≤ 64 → x.whole ≡ true → figure_in x.fresh (32768 + (x.first * 128 + x.names)) ≡ x
-pack_whole x lf ln e = rw (lt-ltb 32767 (32768 + (x.first * 128 + x.names)) (omega arith), first-whole-back x.first x.names lf ln, names-whole-back x.first x.names lf ln, ← e) refl
+-- a figure with the thrift t
+module _ (f : ℕ) (t : Thrift) (lf : f ≤ 255) (small : t.fresh ≤ 256) (ln : t.names ≤ 64) where
+  abbrev with-thrift : Figure
+  with-thrift = record { thrift = Some t; first = f }
 
-pub pack_part : (x : Figure) → x.first ≤ 255 → x.names ≤ 64 → x.whole ≡ false → figure_in x.fresh (x.first * 128 + x.names) ≡ x
-pack_part x lf ln e = rw (le-ltb 32767 (x.first * 128 + x.names) (omega (arith, lf, ln)), first_back x.first x.names lf ln, names-back x.first x.names lf ln, ← e) refl
+  known : eqb t.fresh 65535 ≡ false
+  known = false_from_ne_true (eqb t.fresh 65535) (λ e. omega (arith, eqb-true t.fresh 65535 e, small))
 
-pub figure-few : {clause : List ℕ} {head bodies : ℕ} {r : Figure} → FigureOf clause head bodies r → r.fresh ≤ 65535
-figure-few {r = r} x = known-most r.fresh 256 (omega arith) x.thrift.small
+  pub pack_whole : t.whole ≡ true → figure_in t.fresh (32768 + (f * 128 + t.names)) ≡ with-thrift
+  pack_whole e = rw (known, lt-ltb 32767 (32768 + (f * 128 + t.names)) (omega arith), first-whole-back f t.names lf ln, names-whole-back f t.names lf ln, ← e) refl
+
+  pub pack_part : t.whole ≡ false → figure_in t.fresh (f * 128 + t.names) ≡ with-thrift
+  pack_part e = rw (known, le-ltb 32767 (f * 128 + t.names) (omega (arith, lf, ln)), first_back f t.names lf ln, names-back f t.names lf ln, ← e) refl
+
+-- and one with none
+abbrev with-none : ℕ → Figure
+with-none f = record { thrift = None; first = f }
+
+pub pack-none : (f : ℕ) → f ≤ 255 → figure_in 65535 (f * 128) ≡ with-none f
+pack-none f l = ap with-none (omega (arith, l))
+
+-- its thrift is small
+pub thrift-small : (clause : List ℕ) (head first : ℕ) (o : Option Thrift) → IfSome o (Thrifts clause head first) → IfSome o (λ t. (t.fresh ≤ 256) × (t.names ≤ 64))
+thrift-small clause head first (Some t) x = (x.small, x.few)
+thrift-small clause head first None x = x
 
 -- a figure that is kept already, and one that is put there
 module _ {clause : List ℕ} {head bodies : ℕ} (figures : List ℕ) (i : ℕ) {r : Figure} where
@@ -85,19 +105,19 @@ module _ {clause : List ℕ} {head bodies : ℕ} (figures : List ℕ) (i : ℕ) 
     | inr f ↦ record { figure = subst (FigureOf clause head bodies) (inv e) f; here = inr f; fresh = λ j n. refl; rest = λ j n. refl }
   ]
 
-  pub kept_new : FigureOf clause head bodies r → length figures ≡ 1024 → i < 512 → (w : ℕ) → figure_in r.fresh w ≡ r → KeptAt clause head bodies figures i (set (set figures (2 * i) r.fresh) (2 * i + 1) w) r
-  kept_new f long low w e = record {
+  pub kept_new : FigureOf clause head bodies r → length figures ≡ 1024 → i < 512 → (z w : ℕ) → figure_in z w ≡ r → KeptAt clause head bodies figures i (set (set figures (2 * i) z) (2 * i + 1) w) r
+  kept_new f long low z w e = record {
     figure = f;
     here = inr (rw (a-is, b-is, e) f);
-    fresh = λ j n. get_or-set_other (set figures (2 * i) r.fresh) (2 * i + 1) (2 * j) w 0 (λ z. omega (arith, z)) ∙ get_or-set_other figures (2 * i) (2 * j) r.fresh 0 (λ z. n (omega (arith, z)));
-    rest = λ j n. get_or-set_other (set figures (2 * i) r.fresh) (2 * i + 1) (2 * j + 1) w 0 (λ z. n (omega (arith, z))) ∙ get_or-set_other figures (2 * i) (2 * j + 1) r.fresh 0 (λ z. omega (arith, z));
+    fresh = λ j n. get_or-set_other (set figures (2 * i) z) (2 * i + 1) (2 * j) w 0 (λ y. omega (arith, y)) ∙ get_or-set_other figures (2 * i) (2 * j) z 0 (λ y. n (omega (arith, y)));
+    rest = λ j n. get_or-set_other (set figures (2 * i) z) (2 * i + 1) (2 * j + 1) w 0 (λ y. n (omega (arith, y))) ∙ get_or-set_other figures (2 * i) (2 * j + 1) z 0 (λ y. omega (arith, y));
   }
     where
-      a-is : get_or (set (set figures (2 * i) r.fresh) (2 * i + 1) w) (2 * i) 0 ≡ r.fresh
-      a-is = get_or-set_other (set figures (2 * i) r.fresh) (2 * i + 1) (2 * i) w 0 (λ z. omega (arith, z)) ∙ get_or-set_same figures (2 * i) r.fresh 0 (omega (arith, long, low))
+      a-is : get_or (set (set figures (2 * i) z) (2 * i + 1) w) (2 * i) 0 ≡ z
+      a-is = get_or-set_other (set figures (2 * i) z) (2 * i + 1) (2 * i) w 0 (λ y. omega (arith, y)) ∙ get_or-set_same figures (2 * i) z 0 (omega (arith, long, low))
 
-      b-is : get_or (set (set figures (2 * i) r.fresh) (2 * i + 1) w) (2 * i + 1) 0 ≡ w
-      b-is = get_or-set_same (set figures (2 * i) r.fresh) (2 * i + 1) w 0 (omega (arith, length-set figures (2 * i) r.fresh, long, low))
+      b-is : get_or (set (set figures (2 * i) z) (2 * i + 1) w) (2 * i + 1) 0 ≡ w
+      b-is = get_or-set_same (set figures (2 * i) z) (2 * i + 1) w 0 (omega (arith, length-set figures (2 * i) z, long, low))
 
 -- none is known yet
 pub figured-none : (book shelf : List ℕ) (n : ℕ) → Figured book shelf (replicate n 0)

@@ -1,9 +1,11 @@
 -- The figure of a clause, and the words in which the figures of a book's clauses are kept.
-use Rattle.std.specs.Prelude.{ℕ, ◌+◌, ◌*◌, ◌-◌, ◌/◌, ◌%◌, ◌≤◌, ◌≡◌, ◌⊎◌, List, [], ◌∷◌, length, get_or, take, drop, ltb}
+use Rattle.std.specs.Prelude.{ℕ, ◌+◌, ◌*◌, ◌-◌, ◌/◌, ◌%◌, ◌≤◌, ◌≡◌, ◌⊎◌, List, [], ◌∷◌, length, get_or, take, drop, eqb, ltb, Option, Some, None, IfSome}
+use Rattle.terms.specs.When.{◌⇒◌∣◌}
 use Rattle.terms.specs.Node.{Expr}
 use Rattle.search.specs.Next.{Clause, Goal}
 use Rattle.words.specs.Held.{ClauseIn}
 use Rattle.bounds.specs.Tally.{Thrifts}
+use Rattle.bounds.specs.declared.clauses.Thrift.{Thrift}
 use Rattle.figures.specs.declared.Figure.{Figure}
 
 abbrev pub first_of : Goal → Expr
@@ -15,13 +17,13 @@ abbrev pub Leads : List ℕ → ℕ → ℕ → ℕ → Type 0
 Leads clause head bodies n = (c : Clause) → ClauseIn clause head bodies c → n ≡ length (first_of c.body)
 
 pub record FigureOf (clause : List ℕ) (head bodies : ℕ) (r : Figure) : Type 0 where
-  pub thrift : Thrifts clause head (head + r.first) (record { fresh = r.fresh; whole = r.whole; names = r.names })
+  pub thrift : IfSome r.thrift (Thrifts clause head (head + r.first))
   pub leads : Leads clause head bodies r.first
   pub short : r.first ≤ 255
 
--- the figure that two words say
+-- the figure that two words say; there is no thrift where the first is 65535
 abbrev pub figure_in : ℕ → ℕ → Figure
-figure_in a b = record { fresh = a; whole = ltb 32767 b; first = b / 128 % 256; names = b % 128 }
+figure_in a b = record { thrift = eqb a 65535 ⇒ None ∣ Some (record { fresh = a; whole = ltb 32767 b; names = b % 128 }); first = b / 128 % 256 }
 
 -- the words of the clause number i are its figure, or it is not known yet
 abbrev pub Slot : List ℕ → ℕ → ℕ → List ℕ → ℕ → Type 0

@@ -1,22 +1,20 @@
 // What a clause's body adds to its head depends on the clause alone: it is found once, and kept in two words to a clause.
 #![tactic(auto)]
 
-ghost use Rattle.std.specs.Prelude.{◌≡◌, ◌+◌, ◌*◌, ◌<◌, ◌≤◌, length, get_or};
+ghost use Rattle.std.specs.Prelude.{◌≡◌, ◌+◌, ◌*◌, ◌<◌, ◌≤◌, length, get_or, IfSome};
 ghost use Rattle.search.specs.Next.{Clause};
 ghost use Rattle.words.specs.Held.{ClauseIn};
 ghost use Rattle.figures.specs.Figures.{figure_in, Leads, FigureOf, Slot, KeptAt};
 
-use bounds::clauses::thrift_of;
+use bounds::clauses::{Thrift, thrift_of};
 use heap::past;
 use words::get;
 
-// A clause's thrift (bounds), and how many words the first formula of its body has; 0 where there is none.
+// A clause's thrift (bounds), where it has one, and how many words the first formula of its body has; a fact has none at that place, and so no words there.
 #[derive(Clone, Copy)]
 pub struct Figure {
-    pub fresh: usize,
-    pub whole: bool,
+    pub thrift: Option<Thrift>,
     pub first: usize,
-    pub names: usize,
 }
 
 fn first_of(clause: &[u32], head: usize, bodies: usize) -> usize
@@ -38,37 +36,63 @@ fn figure_of(clause: &[u32], head: usize, bodies: usize) -> Figure
     ensures { FigureOf clause.now head bodies result }
 {
     let first = first_of(clause, head, bodies);
-    let x = thrift_of(clause, head, head + first);
     Figure {
-        fresh: x.fresh,
-        whole: x.whole,
+        thrift: thrift_of(clause, head, head + first),
         first,
-        names: x.names,
     }
 }
 
-// All but `fresh` in one word, which is 0 for no clause: a body has a first formula, and a fact with no variables is whole.
-fn packed(x: Figure) -> usize
-    requires { (x.first ≤ 255) × (x.names ≤ 64) }
-    ensures { (result < 65536) × (figure_in x.fresh result ≡ x) }
+// A figure as it is kept: `fresh` in one word, and all else in the other.
+#[derive(Clone, Copy)]
+struct Words {
+    fresh: usize,
+    rest: usize,
+}
+
+// The first word where a clause has no thrift.
+const LAVISH: usize = 65535;
+
+// The second word is 0 for no clause: a body has a first formula, and a fact with no variables is whole.
+fn packed(x: Figure) -> Words
+    requires { (x.first ≤ 255) × IfSome x.thrift (λ t. (t.fresh ≤ 256) × (t.names ≤ 64)) }
+    ensures fit { (result.fresh < 65536) × (result.rest < 65536) }
+    ensures figure { figure_in result.fresh result.rest ≡ x }
 {
-    let rest = x.first * 128 + x.names;
-    if x.whole {
-        return 32768 + rest;
+    let first = x.first * 128;
+    let Some(thrift) = x.thrift else {
+        return Words {
+            fresh: LAVISH,
+            rest: first,
+        };
+    };
+    let rest = first + thrift.names;
+    Words {
+        fresh: thrift.fresh,
+        rest: if thrift.whole { 32768 + rest } else { rest },
     }
-    rest
 }
 
 fn kept(figures: &[u16], i: usize) -> Figure
     requires { (length figures.now ≡ 1024) × (i < 512) }
     ensures { result ≡ figure_in (get_or figures.now (2 * i) 0) (get_or figures.now (2 * i + 1) 0) }
 {
+    let fresh = get(figures, 2 * i);
     let rest = get(figures, 2 * i + 1);
-    Figure {
-        fresh: get(figures, 2 * i),
+    let first = rest / 128 % 256;
+    if fresh == LAVISH {
+        return Figure {
+            thrift: None,
+            first,
+        };
+    }
+    let thrift = Thrift {
+        fresh,
         whole: 32767 < rest,
-        first: rest / 128 % 256,
         names: rest % 128,
+    };
+    Figure {
+        thrift: Some(thrift),
+        first,
     }
 }
 
@@ -88,7 +112,8 @@ pub fn figure_at(
         return kept(figures, i);
     }
     let x = figure_of(clause, head, bodies);
-    figures[at] = x.fresh as u16;
-    figures[at + 1] = packed(x) as u16;
+    let words = packed(x);
+    figures[at] = words.fresh as u16;
+    figures[at + 1] = words.rest as u16;
     x
 }

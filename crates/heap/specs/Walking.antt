@@ -61,6 +61,6 @@ pub record Visited (heap cells levels : List ℕ) (w : Walk) (u : ℕ) (levels' 
 abbrev pub flat : ℕ → ℕ → Walk
 flat at due = record { at = at; due = due; depth = 0 }
 
--- unless u is 0, it is the word of the one node that stands at p, before what stands behind p: a walk needs no level for it
+-- u is the word of the one node that stands at p, before what stands behind p: a walk needs no level for it
 abbrev pub Lone : List ℕ → List ℕ → ℕ → ℕ → Type 0
-Lone heap cells p u = (u ≡ 0 → ⊥) → (due : ℕ) → 0 < due → Whole heap due p → Visited heap cells [] (flat p due) u [] (flat (suc p) (arity_of u + (due - 1)))
+Lone heap cells p u = (due : ℕ) → 0 < due → Whole heap due p → Visited heap cells [] (flat p due) u [] (flat (suc p) (arity_of u + (due - 1)))

@@ -1,5 +1,5 @@
 // A walk visits the nodes of what rows stand for, in prefix order and through bindings.
-ghost use Rattle.std.specs.Prelude.{◌≡◌, ℕ, ◌+◌, ◌*◌, ◌<◌, ◌≤◌, length};
+ghost use Rattle.std.specs.Prelude.{◌≡◌, ℕ, ◌+◌, ◌*◌, ◌<◌, ◌≤◌, length, IfSome};
 ghost use Rattle.heap.specs.Heap.{Made};
 ghost use Rattle.heap.specs.Walking.{settled, entered, pushed, Ready, Visited, Lone};
 
@@ -53,11 +53,7 @@ fn within(levels: &mut [u16], w: Walk, p: usize, k: usize) -> Walk
 {
     let depth = w.depth;
     if w.due == 1 {
-        return Walk {
-            at: p,
-            due: k,
-            depth,
-        };
+        return Walk { at: p, due: k, ..w };
     }
     levels[2 * depth] = (w.at + 1) as u16;
     levels[2 * depth + 1] = (w.due - 1) as u16;
@@ -76,7 +72,6 @@ pub fn next(heap: &[u32], cells: &[u16], levels: &mut [u16], w: Walk) -> Seen
 {
     let p = w.at;
     let due = w.due - 1;
-    let depth = w.depth;
     let u = word(heap, p);
     if SYMBOL <= u {
         let walk = settled(
@@ -84,7 +79,7 @@ pub fn next(heap: &[u32], cells: &[u16], levels: &mut [u16], w: Walk) -> Seen
             Walk {
                 at: p + 1,
                 due: due + arity(u),
-                depth,
+                ..w
             },
         );
         return Seen { word: u, walk };
@@ -98,7 +93,7 @@ pub fn next(heap: &[u32], cells: &[u16], levels: &mut [u16], w: Walk) -> Seen
             Walk {
                 at: p + 1,
                 due,
-                depth,
+                ..w
             },
         );
         return Seen { word: x, walk };
@@ -108,18 +103,18 @@ pub fn next(heap: &[u32], cells: &[u16], levels: &mut [u16], w: Walk) -> Seen
 }
 
 // What the word at p stands for, where no level is needed for it: the word of a symbol, or of the variable that is not bound or the symbol without arguments
-// that a variable stands for. 0 where a variable stands for more than one node.
-pub fn lone(heap: &[u32], cells: &[u16], p: usize) -> u32
+// that a variable stands for. None where a variable stands for more than one node.
+pub fn lone(heap: &[u32], cells: &[u16], p: usize) -> Option<u32>
     requires { Made heap.now cells.now × (p < length heap.now) }
-    ensures { Lone heap.now cells.now p result }
+    ensures { IfSome result (Lone heap.now cells.now p) }
 {
     let u = word(heap, p);
     if SYMBOL <= u {
-        return u;
+        return Some(u);
     }
     let x = word(heap, follow(heap, cells, p));
     if 0 < arity(x) {
-        return 0;
+        return None;
     }
-    x
+    Some(x)
 }

@@ -1,9 +1,9 @@
 -- A head made equal to a formula of the goal, and what the goal's variables that are bound for it stand for.
-use Rattle.std.specs.Prelude.{ℕ, ◌+◌, ◌-◌, ◌<◌, ◌≤◌, ◌≡◌, List, length}
+use Rattle.std.specs.Prelude.{ℕ, ◌+◌, ◌-◌, ◌<◌, ◌≤◌, ◌≡◌, List, length, Option, Some, None, IfSome}
 use Rattle.terms.specs.Subst.{Subst, apply}
 use Rattle.heap.specs.Heap.{rows, Solved}
 use Rattle.bounds.specs.Places.{places, times}
-use Rattle.bounds.specs.Sizing.{Known, plain, Weighed}
+use Rattle.bounds.specs.Sizing.{Weighed}
 use Rattle.bounds.specs.declared.Weight.{Weight}
 use Rattle.matching.specs.Occurring.{Apart}
 use Rattle.matching.specs.Unifying.{Bound, Stepped, Unified}
@@ -11,7 +11,6 @@ use Rattle.matching.specs.declared.pairs.Pairs.{Pairs}
 use Rattle.matching.specs.declared.unifying.Trial.{Trial}
 use Rattle.matching.specs.declared.unifying.Step.TheVariants as Step
 use Rattle.matching.specs.declared.unifying.Tried.TheVariants as Tried
-use Rattle.matching.specs.declared.fitting.Hanging.{Hanging}
 use Rattle.matching.specs.declared.fitting.Fitted.{Fitted}
 
 -- a variable that is bound to the row at q weighs so much at most: by the nodes and the places of variables of what the row stands for, one of each at least, and by how often any one is there
@@ -26,15 +25,15 @@ pub record Heavy (heap cells : List ℕ) (base q : ℕ) (r : Weight) : Type 0 wh
   pub room : r.times ≤ 553648129
 
 -- v is on the row at q, and on the trail; or all is as before
-abbrev pub Hangs : List ℕ → List ℕ → List ℕ → Trial → ℕ → ℕ → List ℕ → List ℕ → Hanging → Type 0
-Hangs heap cells trail t v q cells' trail' (Hanging.On size) = Bound heap cells trail t v q cells' trail' (t.count + 1) × Apart heap cells v q × (Known (plain size) → Heavy heap cells t.base q size)
-Hangs heap cells trail t v q cells' trail' Hanging.Off = (cells' ≡ cells) × (trail' ≡ trail)
+abbrev pub Hangs : List ℕ → List ℕ → List ℕ → Trial → ℕ → ℕ → List ℕ → List ℕ → Option (Option Weight) → Type 0
+Hangs heap cells trail t v q cells' trail' (Some size) = Bound heap cells trail t v q cells' trail' (t.count + 1) × Apart heap cells v q × IfSome size (Heavy heap cells t.base q)
+Hangs heap cells trail t v q cells' trail' None = (cells' ≡ cells) × (trail' ≡ trail)
 
 -- the one pair that is left is equal now, and what is bound for it is weighed; or all is as before
-abbrev pub HangsLast : List ℕ → List ℕ → List ℕ → Trial → Pairs → List ℕ → List ℕ → Hanging → Type 0
-HangsLast heap cells trail t x cells' trail' (Hanging.On size) =
+abbrev pub HangsLast : List ℕ → List ℕ → List ℕ → Trial → Pairs → List ℕ → List ℕ → Option (Option Weight) → Type 0
+HangsLast heap cells trail t x cells' trail' (Some size) =
     (x.due ≡ 1) × (x.depth ≡ 0) × (0 < t.fuel) × Stepped heap cells trail t x.p x.q cells' trail' (Step.Done (t.count + 1) (t.fuel - 1)) × Weighed heap cells' t.base trail' (t.count + 1) size
-HangsLast heap cells trail t x cells' trail' Hanging.Off = (cells' ≡ cells) × (trail' ≡ trail)
+HangsLast heap cells trail t x cells' trail' None = (cells' ≡ cells) × (trail' ≡ trail)
 
 -- as two rows are unified, and what is bound is weighed
 abbrev pub Fitting : List ℕ → List ℕ → List ℕ → Trial → ℕ → ℕ → List ℕ → List ℕ → Fitted → Type 0

@@ -1,5 +1,5 @@
 -- A head matched with a formula of the goal: what its variables are bound to, and the pairs that are left.
-use Rattle.std.specs.Prelude.{ℕ, ◌<◌, ◌≤◌, ◌≡◌, ◌↔◌, List, length}
+use Rattle.std.specs.Prelude.{ℕ, ◌<◌, ◌≤◌, ◌≡◌, ◌↔◌, List, length, Option, Some, None}
 use Rattle.terms.specs.Subst.{Subst}
 use Rattle.heap.specs.Heap.{bound, Made, Solves, Solved}
 use Rattle.matching.specs.Meeting.{Equal}
@@ -8,7 +8,6 @@ use Rattle.matching.specs.Unifying.{Unseen}
 use Rattle.matching.specs.declared.pairs.Pairs.{Pairs}
 use Rattle.matching.specs.declared.heads.Way.{Way}
 use Rattle.matching.specs.declared.heads.Way.TheVariants.{On, Unlike, Open}
-use Rattle.matching.specs.declared.heads.Matched.{Matched}
 
 -- more is bound, but of the variables from `base` on alone
 pub record Extends (heap : List ℕ) (base : ℕ) (cells cells' : List ℕ) : Type 0 where
@@ -40,6 +39,6 @@ pub record Matching (heap : List ℕ) (base : ℕ) (cells : List ℕ) (p q : ℕ
   pub ended : x.due ≡ 0 → x.depth ≡ 0
   pub just : (τ : Subst) → (Solves heap cells τ × Equal heap τ 1 p q) ↔ (Solves heap cells' τ × EqualAll heap stack τ x)
 
-abbrev pub HeadMet : List ℕ → ℕ → List ℕ → ℕ → ℕ → List ℕ → List ℕ → Matched → Type 0
-HeadMet heap base cells p q cells' stack (Matched.Left x) = Matching heap base cells p q cells' stack x
-HeadMet heap base cells p q cells' stack Matched.Unlike = Extends heap base cells cells' × ((τ : Subst) → Solves heap cells τ → ¬ Equal heap τ 1 p q)
+abbrev pub HeadMet : List ℕ → ℕ → List ℕ → ℕ → ℕ → List ℕ → List ℕ → Option Pairs → Type 0
+HeadMet heap base cells p q cells' stack (Some x) = Matching heap base cells p q cells' stack x
+HeadMet heap base cells p q cells' stack None = Extends heap base cells cells' × ((τ : Subst) → Solves heap cells τ → ¬ Equal heap τ 1 p q)

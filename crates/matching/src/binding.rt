@@ -3,8 +3,6 @@ ghost use Rattle.std.specs.Prelude.{◌≡◌, List, ℕ, suc, ◌<◌, ◌≤�
 ghost use Rattle.heap.specs.Heap.{bound};
 ghost use Rattle.matching.specs.Binding.{noted, counted, Trailed};
 
-use words::get;
-
 // The variable v, which is not bound, on the row at p. Those of the goal are put on the trail; those of the clause, from `base` on, are not, since
 // each trial starts with new ones.
 pub fn bind(
@@ -34,10 +32,7 @@ pub fn undo(cells: &mut [u16], trail: &[u16], count: usize)
     ensures free { (v : ℕ) → bound cells.old v ≡ 0 → bound cells.new v ≡ 0 }
     ensures undone { (before : List ℕ) (base : ℕ) → Trailed before cells.old trail.now base count → (v : ℕ) → v < base → bound cells.new v ≡ bound before v }
 {
-    let mut i = 0;
-    while i < count {
-        let v = get(trail, i);
-        cells[v] = 0;
-        i += 1;
+    for &v in &trail[..count] {
+        cells[usize::from(v)] = 0;
     }
 }

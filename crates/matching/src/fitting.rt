@@ -6,22 +6,15 @@ ghost use Rattle.matching.specs.Unifying.{Begun};
 ghost use Rattle.matching.specs.Fitting.{Hangs, HangsLast, Fitting};
 
 use crate::binding::bind;
-use crate::heads::{Matched, match_head};
+use crate::heads::match_head;
 use crate::occurring::{is_away, weight_apart};
 use crate::pairs::Pairs;
 use crate::unifying::{Trial, Tried, unify};
-use bounds::{Weight, unweighed, weightless};
+use bounds::{Weight, weightless};
 use heap::{SYMBOL, follow, id};
 use words::word;
 
-// A variable of the goal is on a row of the head now, which stands for so much; or it is not, since it is in what that stands for, or that is not known.
-#[derive(Clone, Copy)]
-pub enum Hanging {
-    On(Weight),
-    Off,
-}
-
-// The goal's variable v on the row at q.
+// The goal's variable v on the row at q: what it weighs now, where that is known. None where it is not hung there, since it is in what the row stands for, or that is not known.
 fn hang_row(
     heap: &[u32],
     cells: &mut [u16],
@@ -30,22 +23,22 @@ fn hang_row(
     t: Trial,
     v: usize,
     q: usize,
-) -> Hanging
+) -> Option<Option<Weight>>
     requires { Made heap.now cells.old × ((θ : Subst) × Solved heap.now cells.old θ) × Whole heap.now 1 q × (length cells.old ≤ 8256) × (v < length cells.old) × (t.count < length trail.old) × (t.fuel ≤ 8448) × (514 ≤ length levels.old) × (t.base < 65536) }
     ensures { Hangs heap.now cells.old trail.old t v q cells.new trail.new result }
 {
     if t.base <= v {
-        return Hanging::Off;
+        return None;
     }
-    let size = weight_apart(heap, cells, t.base, v, q);
-    if is_away(heap, cells, levels, v, q, t.fuel, size) {
+    let weight = weight_apart(heap, cells, t.base, v, q);
+    if is_away(heap, cells, levels, v, q, t.fuel, weight) {
         bind(cells, trail, t.base, t.count, v, q);
-        return Hanging::On(size);
+        return Some(weight);
     }
-    Hanging::Off
+    None
 }
 
-// Where the pairs are one, a variable of the goal and a term of the head, that is its value now: so a rule gives a value back.
+// Where the pairs are one, a variable of the goal and a term of the head, that is its value now: so a rule gives a value back. None where they are not, or it is not hung on the term.
 fn hang_last(
     heap: &[u32],
     cells: &mut [u16],
@@ -53,26 +46,26 @@ fn hang_last(
     levels: &mut [u16],
     t: Trial,
     x: Pairs,
-) -> Hanging
+) -> Option<Option<Weight>>
     requires made { Made heap.now cells.old × ((θ : Subst) × Solved heap.now cells.old θ) × (length cells.old ≤ 8256) × (0 < x.due) × Whole heap.now x.due x.p × Whole heap.now x.due x.q }
     requires count_value { (t.count ≡ 0) × (t.fuel ≤ 8448) × (514 ≤ length levels.old) × (t.count + t.fuel ≤ length trail.old) × (t.base < 65536) }
     ensures { HangsLast heap.now cells.old trail.old t x cells.new trail.new result }
 {
     if x.due != 1 {
-        return Hanging::Off;
+        return None;
     }
     if x.depth != 0 {
-        return Hanging::Off;
+        return None;
     }
     if t.fuel == 0 {
-        return Hanging::Off;
+        return None;
     }
     if word(heap, x.q) < SYMBOL {
-        return Hanging::Off;
+        return None;
     }
     let y = word(heap, follow(heap, cells, x.p));
     if SYMBOL <= y {
-        return Hanging::Off;
+        return None;
     }
     hang_row(heap, cells, trail, levels, t, id(y), x.q)
 }
@@ -80,7 +73,7 @@ fn hang_last(
 // The rows are equal, after so many bindings of goal variables, each of which stands for so much at most, where that is known; they can't be made equal; or nothing is known.
 #[derive(Clone, Copy)]
 pub enum Fitted {
-    Fits(usize, Weight),
+    Fits(usize, Option<Weight>),
     Clash(usize),
     Tired(usize),
 }
@@ -101,7 +94,7 @@ fn fit_all(
     ensures { Fitting heap.now cells.old trail.old t p q cells.new trail.new result }
 {
     match unify(heap, cells, trail, levels, stack, t, p, q) {
-        Tried::Fits(count, _) => Fitted::Fits(count, unweighed()),
+        Tried::Fits(count, _) => Fitted::Fits(count, None),
         Tried::Clash(count) => Fitted::Clash(count),
         Tried::Tired(count) => Fitted::Tired(count),
     }
@@ -122,16 +115,14 @@ pub fn fit(
     requires fuel_bound { (t.fuel ≤ 8448) × (514 ≤ length levels.old) × (t.count + t.fuel ≤ length trail.old) × (387 ≤ length stack.old) × (t.base < 65536) }
     ensures { Fitting heap.now cells.old trail.old t p q cells.new trail.new result }
 {
-    match match_head(heap, cells, stack, t, p, q) {
-        Matched::Unlike => Fitted::Clash(t.count),
-        Matched::Left(x) => {
-            if x.due == 0 {
-                return Fitted::Fits(t.count, weightless());
-            }
-            match hang_last(heap, cells, trail, levels, t, x) {
-                Hanging::On(size) => Fitted::Fits(t.count + 1, size),
-                Hanging::Off => fit_all(heap, cells, trail, levels, stack, t, p, q),
-            }
-        }
+    let Some(left) = match_head(heap, cells, stack, t, p, q) else {
+        return Fitted::Clash(t.count);
+    };
+    if left.due == 0 {
+        return Fitted::Fits(t.count, Some(weightless()));
+    }
+    match hang_last(heap, cells, trail, levels, t, left) {
+        Some(weight) => Fitted::Fits(t.count + 1, weight),
+        None => fit_all(heap, cells, trail, levels, stack, t, p, q),
     }
 }

@@ -26,22 +26,14 @@ fn behind_variable(heap: &[u32], x: Pairs) -> Pairs
     requires { Valids heap.now × (length heap.now < 65536) × (0 < x.due) × Whole heap.now x.due x.p × Whole heap.now x.due x.q × (kind_of (get_or heap.now x.q 0) ≡ 1) }
     ensures { Behind heap.now x result }
 {
-    let p = x.p;
-    let q = x.q;
-    let depth = x.depth;
     if x.due == 1 {
-        return Pairs {
-            p,
-            q,
-            due: 0,
-            depth,
-        };
+        return Pairs { due: 0, ..x };
     }
     Pairs {
-        p: past(heap, p),
-        q: q + 1,
+        p: past(heap, x.p),
+        q: x.q + 1,
         due: x.due - 1,
-        depth,
+        ..x
     }
 }
 
@@ -104,7 +96,7 @@ fn match_first(heap: &[u32], cells: &mut [u16], stack: &mut [u16], t: Trial, x: 
             p: x.p + 1,
             q: x.q + 1,
             due: x.due - 1 + arity(u),
-            depth: x.depth,
+            ..x
         });
     }
     if u < SYMBOL {
@@ -113,17 +105,10 @@ fn match_first(heap: &[u32], cells: &mut [u16], stack: &mut [u16], t: Trial, x: 
     Way::Unlike
 }
 
-// The two can't be made equal; or these pairs are left.
-#[derive(Clone, Copy)]
-pub enum Matched {
-    Unlike,
-    Left(Pairs),
-}
-
 // A head has fewer words, so that this many pairs are enough.
 const PAIRS: usize = 256;
 
-// The formula's row at p and the head's at q.
+// The formula's row at p and the head's at q: the pairs that are left. None where the two can't be made equal.
 pub fn match_head(
     heap: &[u32],
     cells: &mut [u16],
@@ -131,7 +116,7 @@ pub fn match_head(
     t: Trial,
     p: usize,
     q: usize,
-) -> Matched
+) -> Option<Pairs>
     requires { Made heap.now cells.old × ((θ : Subst) × Solved heap.now cells.old θ) × Whole heap.now 1 p × Whole heap.now 1 q × Begun heap.now cells.old t × (387 ≤ length stack.old) }
     ensures { HeadMet heap.now t.base cells.old p q cells.new stack.new result }
 {
@@ -141,17 +126,15 @@ pub fn match_head(
         due: 1,
         depth: 0,
     };
-    let mut left = PAIRS;
-    while 0 < x.due {
-        if left == 0 {
-            return Matched::Left(x);
+    for _ in 0..PAIRS {
+        if x.due == 0 {
+            return Some(x);
         }
-        left -= 1;
         match match_first(heap, cells, stack, t, x) {
             Way::On(y) => x = settled(stack, y),
-            Way::Unlike => return Matched::Unlike,
-            Way::Open => return Matched::Left(x),
+            Way::Unlike => return None,
+            Way::Open => return Some(x),
         }
     }
-    Matched::Left(x)
+    Some(x)
 }

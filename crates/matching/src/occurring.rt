@@ -1,13 +1,12 @@
 // The occur check: whether a variable is in what a row stands for.
-ghost use Rattle.std.specs.Prelude.{◌≡◌, true, [], ◌<◌, ◌≤◌, length};
+ghost use Rattle.std.specs.Prelude.{◌≡◌, true, [], ◌<◌, ◌≤◌, length, IfSome, OnSome};
 ghost use Rattle.terms.specs.Subst.{Subst};
 ghost use Rattle.heap.specs.Heap.{Made, Solved, Whole};
 ghost use Rattle.heap.specs.Walking.{flat};
-ghost use Rattle.bounds.specs.Sizing.{Known, plain};
 ghost use Rattle.matching.specs.Occurring.{Apart, Looked, Seeking};
 ghost use Rattle.matching.specs.Fitting.{Heavy};
 
-use bounds::{OVER, Weight, larger, one_if_old, one_if_variable, unweighed};
+use bounds::{Weight, one_if_old, one_if_variable};
 use heap::walking::{DEEPEST, Walk, lone, next};
 use words::arity;
 
@@ -40,10 +39,9 @@ fn skim(heap: &[u32], cells: &[u16], v: usize, p: usize, fuel: usize) -> Rest
         if left == 0 {
             return Rest { at, due, left };
         }
-        let u = lone(heap, cells, at);
-        if u == 0 {
+        let Some(u) = lone(heap, cells, at) else {
             return Rest { at, due, left };
-        }
+        };
         if u == sought {
             return Rest { at, due, left };
         }
@@ -111,12 +109,12 @@ pub fn occurs(
     seek(heap, cells, levels, v, p, fuel, rest)
 }
 
-// What a variable weighs that is bound to a row, where v is not in what the row stands for and each of its words stands for one node: so the row is gone through once for both. Not known
+// What a variable weighs that is bound to a row, where v is not in what the row stands for and each of its words stands for one node: so the row is gone through once for both. None
 // otherwise. A variable of the goal is below the base: it is where v was, and where it is itself.
-pub fn weight_apart(heap: &[u32], cells: &[u16], base: usize, v: usize, p: usize) -> Weight
+pub fn weight_apart(heap: &[u32], cells: &[u16], base: usize, v: usize, p: usize) -> Option<Weight>
     requires { Made heap.now cells.now × ((θ : Subst) × Solved heap.now cells.now θ) × Whole heap.now 1 p × (v < 65536) × (base < 65536) }
-    ensures heavy { Known (plain result) → Heavy heap.now cells.now base p result }
-    ensures apart { Known (plain result) → Apart heap.now cells.now v p }
+    ensures heavy { IfSome result (Heavy heap.now cells.now base p) }
+    ensures apart { OnSome result (Apart heap.now cells.now v p) }
 {
     let sought = 0x100_0000 + v as u32;
     let mut nodes = 0;
@@ -126,14 +124,11 @@ pub fn weight_apart(heap: &[u32], cells: &[u16], base: usize, v: usize, p: usize
     let mut at = p;
     while 0 < due {
         if nodes == 4096 {
-            return unweighed();
+            return None;
         }
-        let u = lone(heap, cells, at);
-        if u == 0 {
-            return unweighed();
-        }
+        let u = lone(heap, cells, at)?;
         if sought == u {
-            return unweighed();
+            return None;
         }
         nodes += 1;
         variables += one_if_variable(u);
@@ -141,11 +136,11 @@ pub fn weight_apart(heap: &[u32], cells: &[u16], base: usize, v: usize, p: usize
         due = due - 1 + arity(u);
         at += 1;
     }
-    Weight {
+    Some(Weight {
         nodes,
-        variables: larger(variables, 1),
-        times: larger(variables - old, 1 + old),
-    }
+        variables: variables.max(1),
+        times: (variables - old).max(1 + old),
+    })
 }
 
 // Whether it is known not to be, by what was weighed or by a walk.
@@ -156,18 +151,11 @@ pub fn is_away(
     v: usize,
     p: usize,
     fuel: usize,
-    size: Weight,
+    weight: Option<Weight>,
 ) -> bool
-    requires made { Made heap.now cells.now × Whole heap.now 1 p × (v < 65536) × (Known (plain size) → Apart heap.now cells.now v p) }
+    requires made { Made heap.now cells.now × Whole heap.now 1 p × (v < 65536) × OnSome weight (Apart heap.now cells.now v p) }
     requires fuel_bound { (fuel ≤ 8448) × (514 ≤ length levels.old) }
     ensures { result ≡ true → Apart heap.now cells.now v p }
 {
-    if size.nodes < OVER {
-        return true;
-    }
-    match occurs(heap, cells, levels, v, p, fuel) {
-        Look::Away(_) => true,
-        Look::There => false,
-        Look::Tired => false,
-    }
+    weight.is_some() || matches!(occurs(heap, cells, levels, v, p, fuel), Look::Away(_))
 }

@@ -22,23 +22,22 @@ pub fn past_alike(heap: &[u32], x: Pairs) -> Pairs
     requires { Valids heap.now × (length heap.now < 65536) × Whole heap.now x.due x.p × Whole heap.now x.due x.q }
     ensures { Alike heap.now x result }
 {
-    let depth = x.depth;
     let mut p = x.p;
     let mut q = x.q;
     let mut due = x.due;
     while 0 < due {
         let u = word(heap, p);
         if u < SYMBOL {
-            return Pairs { p, q, due, depth };
+            return Pairs { p, q, due, ..x };
         }
         if u != word(heap, q) {
-            return Pairs { p, q, due, depth };
+            return Pairs { p, q, due, ..x };
         }
         due = due - 1 + arity(u);
         p += 1;
         q += 1;
     }
-    Pairs { p, q, due, depth }
+    Pairs { p, q, due, ..x }
 }
 
 // The pairs behind the first.
@@ -46,22 +45,14 @@ pub fn behind(heap: &[u32], x: Pairs) -> Pairs
     requires { Valids heap.now × (length heap.now < 65536) × (0 < x.due) × Whole heap.now x.due x.p × Whole heap.now x.due x.q }
     ensures { Behind heap.now x result }
 {
-    let p = x.p;
-    let q = x.q;
-    let depth = x.depth;
     if x.due == 1 {
-        return Pairs {
-            p,
-            q,
-            due: 0,
-            depth,
-        };
+        return Pairs { due: 0, ..x };
     }
     Pairs {
-        p: past(heap, p),
-        q: past(heap, q),
+        p: past(heap, x.p),
+        q: past(heap, x.q),
         due: x.due - 1,
-        depth,
+        ..x
     }
 }
 
@@ -96,7 +87,7 @@ pub fn entered(levels: &mut [u16], x: Pairs, a: usize, b: usize, k: usize) -> Pa
             p: a,
             q: b,
             due: k,
-            depth,
+            ..x
         };
     }
     levels[3 * depth] = x.p as u16;

@@ -36,12 +36,8 @@ fn sought(heap: &[u32], cells: &[u16], levels: &mut [u16], t: Trial, v: usize, r
     requires fuel_bound { (t.fuel ≤ 8448) × (514 ≤ length levels.old) }
     ensures { Looked heap.now cells.now v r t.fuel result }
 {
-    if t.count == 0 {
-        if t.base <= v {
-            if r < t.start {
-                return Look::Away(t.fuel);
-            }
-        }
+    if t.count == 0 && t.base <= v && r < t.start {
+        return Look::Away(t.fuel);
     }
     occurs(heap, cells, levels, v, r, t.fuel)
 }
@@ -123,8 +119,6 @@ pub fn unify(
     requires fuel_bound { (t.fuel ≤ 8448) × (514 ≤ length levels.old) × (t.count + t.fuel ≤ length trail.old) × (387 ≤ length stack.old) }
     ensures { Unified heap.now cells.old trail.old t p q cells.new trail.new result }
 {
-    let base = t.base;
-    let start = t.start;
     let mut count = t.count;
     let mut fuel = t.fuel;
     let first = Pairs {
@@ -149,12 +143,7 @@ pub fn unify(
             cells,
             trail,
             levels,
-            Trial {
-                base,
-                start,
-                count,
-                fuel,
-            },
+            Trial { count, fuel, ..t },
             x.p,
             x.q,
         ) {

@@ -24,7 +24,7 @@ use Rattle.trials.specs.Trying.{trail}
 use Rattle.bounds.specs.Places.{weigh, times, places, places_all, Seldom}
 use Rattle.figures.specs.Figures.{first_of}
 use Rattle.bounds.specs.Thrift.{fresh, Thrifty, Kept}
-use Rattle.bounds.specs.Sizing.{Known, plain, Weighs}
+use Rattle.bounds.specs.Sizing.{Weighs}
 use Rattle.bounds.specs.WeighLaws.{gain}
 use Rattle.bounds.specs.GoalLaws.{nodes-append, places-flat, places-all-few, places-all-number, numbered-nodes, weigh-all-most}
 use Rattle.bounds.specs.OftenLaws.{seldom-few, gain-few, often-under, number-seldom}
@@ -113,7 +113,7 @@ module _ {words before levels : List ℕ} {s : Standing} {f : Expr} {g a : Goal}
     moved : (v : ℕ) → InAny v (F ∷ (G ++ A)) → (z.0 v ≡ itself v) ⊎ ((j : ℕ) × (j < count) × (get_or (trail tables) j 0 ≡ v))
     moved v i = elim (fitted.undoable.trailed.kept v (held_low h v i)) [ inl e ↦ inl (z.1.free v (e ∙ held-free h v i)) | inr (o, (j, l, under, e)) ↦ inr (j, under, e) ]
 
-    module _ (grown : Weight) (y : Weighs heap cells s.base (trail tables) count grown) (known : Known (plain grown)) where
+    module _ (grown : Weight) (y : Weighs heap cells s.base (trail tables) count grown) where
       least-of : (weight : Expr → ℕ) (most : ℕ) → ((v : ℕ) → weight (itself v) ≤ most) → ((i : ℕ) → i < count → weight (z.0 (get_or (trail tables) i 0)) ≤ most) → (v : ℕ) → InAny v (F ∷ (G ++ A)) → weight (τ v) ≤ most
       least-of weight most alone each v i = subst (λ e. weight e ≤ most) (inv (agree v i)) (elim (moved v i) [
         | inl e ↦ subst (λ x. weight x ≤ most) (inv e) (alone v)
@@ -121,10 +121,10 @@ module _ {words before levels : List ℕ} {s : Standing} {f : Expr} {g a : Goal}
       ])
 
       longest : (v : ℕ) → InAny v (F ∷ (G ++ A)) → length (τ v) ≤ grown.nodes
-      longest = least-of length grown.nodes (λ v. y.grown.some) (λ i l. y.grown.long known i l z.0 z.1)
+      longest = least-of length grown.nodes (λ v. y.grown.some) (λ i l. y.grown.long i l z.0 z.1)
 
       widest : (v : ℕ) → InAny v (F ∷ (G ++ A)) → places (τ v) ≤ grown.variables
-      widest = least-of places grown.variables (λ v. y.one known) (λ i l. y.grown.places known i l z.0 z.1)
+      widest = least-of places grown.variables (λ v. y.one) (λ i l. y.grown.places i l z.0 z.1)
 
       sizes-now : (nodes (F ∷ G) ≤ s.nodes) × (nodes A ≤ s.found)
       sizes-now = (omega (arith, goal-sizes.0, h.goal_nodes), omega (arith, goal-sizes.1, h.answer_nodes))
@@ -160,7 +160,7 @@ module _ {words before levels : List ℕ} {s : Standing} {f : Expr} {g a : Goal}
         gained : weigh (gain τ) (flat (F ∷ (G ++ A))) ≤ extra
         gained = subst (λ n. weigh (gain τ) (flat (F ∷ (G ++ A))) ≤ n) (inv charged.extra_is) (elim charged.for_is [
           | inl e ↦ subst (λ n. weigh (gain τ) (flat (F ∷ (G ++ A))) ≤ n * (grown.nodes - 1)) (inv e)
-              (gain-few (F ∷ (G ++ A)) s.base s.most (held_low h) seldom-now τ z.0 agree (trail tables) count moved grown.nodes (λ j l. y.grown.long known j l z.0 z.1))
+              (gain-few (F ∷ (G ++ A)) s.base s.most (held_low h) seldom-now τ z.0 agree (trail tables) count moved grown.nodes (λ j l. y.grown.long j l z.0 z.1))
           | inr e ↦ subst (λ n. weigh (gain τ) (flat (F ∷ (G ++ A))) ≤ n * (grown.nodes - 1)) (inv e) (weigh-all-most (gain τ) (grown.nodes - 1) s.variables (F ∷ (G ++ A)) (λ v i. omega (arith, longest v i)) few-places)
         ])
 
@@ -169,7 +169,7 @@ module _ {words before levels : List ℕ} {s : Standing} {f : Expr} {g a : Goal}
 
         multiplied : (x : ℕ) → weigh (λ v. times x (τ v)) (flat (F ∷ (G ++ A))) ≤ s.most * times'
         multiplied x = subst (λ n. weigh (λ v. times x (τ v)) (flat (F ∷ (G ++ A))) ≤ s.most * n) (inv charged.times_are)
-            (often-under (F ∷ (G ++ A)) s.base s.most (held_low h) seldom-now τ z.0 agree (trail tables) count moved x grown.times (y.old known z.0 z.1 x) (y.new known z.0 z.1 x))
+            (often-under (F ∷ (G ++ A)) s.base s.most (held_low h) seldom-now τ z.0 agree (trail tables) count moved x grown.times (y.old z.0 z.1 x) (y.new z.0 z.1 x))
 
       module _ (more : Added) (r : Bounds) {extra places' times' : ℕ} (charged : Charged s grown count extra places' times') (sum : Summed s more extra places' times' r) (how : ThriftyAdds clause s c first more ⊎ CountedAdds heap cells s c first more) where
         bare : ThriftyAdds clause s c first more → Thrifty d.head (flat d.body)

@@ -10,10 +10,12 @@ use Rattle.terms.specs.Node.{Expr}
 use Rattle.search.specs.Next.{Clause, Goal}
 use Rattle.words.specs.Word.{nodes}
 use Rattle.bounds.specs.Thrift.{Kept}
+use Rattle.std.specs.Prelude.{Some, IfSome}
 use Rattle.bounds.specs.Sizing.{Sized}
+use Rattle.bounds.specs.Tally.{Thrifts}
+use Rattle.bounds.specs.declared.clauses.Thrift.{Thrift}
 use Rattle.bounds.specs.declared.Size.{Size}
 use Rattle.figures.specs.Figures.{first_of, FigureOf}
-use Rattle.figures.specs.FigureLaws.{known-most}
 use Rattle.heapgoals.specs.declared.Standing.{Standing}
 use Rattle.treads.specs.Stepping.{IsUnderWay, body_at, body_rows}
 use Rattle.treads.specs.Adding.{span_words, head_long, Led, ThriftyAdds, Adds, Charged}
@@ -27,7 +29,6 @@ few_product a b m l h = omega (arith, mul-le-mul_right {m = a} {n = 8192} b l, h
 -- where nothing is bound
 pub nothing-charged : (s : Standing) (count : ℕ) → Charged s (record { nodes = 1; variables = 1; times = 1 }) count 0 s.variables 1
 nothing-charged s count = record {
-  known = λ e. omega (arith, e);
   for = s.most * count;
   for_is = inl refl;
   extra_is = omega arith;
@@ -35,16 +36,16 @@ nothing-charged s count = record {
   times_are = refl;
 }
 
-pub thrifty-adds : (clause : List ℕ) (s : Standing) (c : Span) (first r : ℕ) → FigureOf clause (head_long c) c.bodies c.figure → (c.figure.fresh ≡ 65535 → ⊥) → Led s.least c.figure.whole (head_long c) c.figure.first r → c.figure.first ≡ first
-    → ThriftyAdds clause s c first (record { nodes = c.end - c.head; less = head_long c; variables = c.figure.fresh; least = r; names = c.figure.names })
-thrifty-adds clause s c first r x known led e = record {
-  thrifty = x.thrift.thrifty known;
+pub thrifty-adds : (clause : List ℕ) (s : Standing) (c : Span) (first r : ℕ) (t : Thrift) → Thrifts clause (head_long c) (head_long c + c.figure.first) t → Led s.least t.whole (head_long c) c.figure.first r → c.figure.first ≡ first
+    → ThriftyAdds clause s c first (record { nodes = c.end - c.head; less = head_long c; variables = t.fresh; least = r; names = t.names })
+thrifty-adds clause s c first r t x led e = record {
+  thrifty = x.thrifty;
   nodes_are = refl;
   less_is = refl;
-  fresh_is = x.thrift.fresh known;
+  fresh_is = x.fresh;
   leads = elim led [
     | inl z ↦ inl (z ∙ e)
-    | inr (w, l, z) ↦ inr (subst (λ m. Kept (nodes (take (head_long c) clause)) (nodes (take m (drop (head_long c) clause)))) (back (head_long c) c.figure.first ∙ e) (x.thrift.kept known w), l, z ∙ ap (λ m. s.least - head_long c + m) e)
+    | inr (w, l, z) ↦ inr (subst (λ m. Kept (nodes (take (head_long c) clause)) (nodes (take m (drop (head_long c) clause)))) (back (head_long c) c.figure.first ∙ e) (x.kept w), l, z ∙ ap (λ m. s.least - head_long c + m) e)
   ];
 }
   where
@@ -53,22 +54,34 @@ thrifty-adds clause s c first r x known led e = record {
 
 -- what is under way
 module _ {book words before levels : List ℕ} {s : Standing} {c : Span} {heap cells tables : List ℕ} {count : ℕ} {f : Expr} {g a : Goal} {d : Clause} (u : IsUnderWay book words before levels s c heap cells tables count f g a d) where
-  pub adds-thrifty : (r : ℕ) → c.figure.fresh < 65535 → Led s.least c.figure.whole (head_long c) c.figure.first r
-      → Adds (span_words book c) heap cells s c (length (first_of (body_rows heap s c))) (record { nodes = c.end - c.head; less = head_long c; variables = c.figure.fresh; least = r; names = c.figure.names })
-  adds-thrifty r l led = record {
-    how = inl (thrifty-adds (span_words book c) s c (length (first_of (body_rows heap s c))) r u.figure (λ e. omega (arith, e, l)) led (first-is u));
-    names = u.figure.thrift.names;
-    few = u.figure.thrift.few;
+  pub adds-thrifty : (t : Thrift) → c.figure.thrift ≡ Some t → (r : ℕ) → Led s.least t.whole (head_long c) c.figure.first r
+      → Adds (span_words book c) heap cells s c (length (first_of (body_rows heap s c))) (record { nodes = c.end - c.head; less = head_long c; variables = t.fresh; least = r; names = t.names })
+  adds-thrifty t e r led = record {
+    how = inl (thrifty-adds (span_words book c) s c (length (first_of (body_rows heap s c))) r t x led (first-is u));
+    names = x.names;
+    few = x.few;
     small = λ n. omega (arith, span-few u, u.placed.begins, u.placed.ends);
-    spread = omega (arith, l);
+    spread = omega (arith, x.small);
   }
+    where
+      x : Thrifts (span_words book c) (head_long c) (head_long c + c.figure.first) t
+      x = subst (λ o. IfSome o (Thrifts (span_words book c) (head_long c) (head_long c + c.figure.first))) e u.figure.thrift
 
   pub adds-counted : (y : Size) → Sized heap cells (body_at s c) c.bodies 256 y
       → Adds (span_words book c) heap cells s c (length (first_of (body_rows heap s c))) (record { nodes = y.nodes; less = 0; variables = y.variables; least = c.figure.first; names = 64 })
   adds-counted y z = record {
-    how = inr (record { less_is = refl; nodes_are = z.long; places_are = z.places; leads = first-is u });
+    how = inr (record { less_is = refl; nodes_are = λ n. z.long; places_are = λ n. z.places; leads = first-is u });
     names = u.placed.clause.fit;
     few = omega arith;
-    small = z.low;
-    spread = omega (arith, z.few, known-most y.nodes 256 (omega arith) z.low);
+    small = λ n. z.low;
+    spread = omega (arith, z.few, z.low);
+  }
+
+  pub adds-unknown : Adds (span_words book c) heap cells s c (length (first_of (body_rows heap s c))) (record { nodes = 65535; less = 0; variables = 0; least = c.figure.first; names = 64 })
+  adds-unknown = record {
+    how = inr (record { less_is = refl; nodes_are = λ n. absurd (n refl); places_are = λ n. absurd (n refl); leads = first-is u });
+    names = u.placed.clause.fit;
+    few = omega arith;
+    small = λ n. absurd (n refl);
+    spread = omega arith;
   }

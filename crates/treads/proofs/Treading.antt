@@ -19,6 +19,7 @@ use Rattle.words.specs.HeldLaws.{clauses-of}
 use Rattle.picking.specs.Picking.{Picked}
 use Rattle.applying.specs.Applying.{Onward}
 use Rattle.bounds.specs.Sizing.{Weighed}
+use Rattle.std.specs.Prelude.{Option}
 use Rattle.bounds.specs.declared.Weight.{Weight}
 use Rattle.trials.specs.Trying.{trail, clause_words}
 use Rattle.figures.specs.Figures.{FigureOf}
@@ -57,7 +58,7 @@ module _ {book shelf : List ℕ} {P : Book} (o : BookOn book shelf P) (f : Expr)
       rw (ap goal_in both, next_answer) (last-behind h b (length a) x.as_many)
 
 module _ {book shelf words cells levels : List ℕ} {P : Book} {s : Standing} {f : Expr} {g a : Goal} (o : BookOn book shelf P) (h : Holds words cells levels s (f ∷ g) a) (room : s.base ≤ 8192) (enough : s.top + 256 ≤ length words) (most : length words ≤ 8448)
-    {words' cells' tables levels' : List ℕ} (long : length words' ≡ length words) (x : Fore levels levels') {i count : ℕ} {size : Weight} (t : Sought P f book shelf (take s.top words) words' cells s cells' tables (Seen.Clause i count size))
+    {words' cells' tables levels' : List ℕ} (long : length words' ≡ length words) (x : Fore levels levels') {i count : ℕ} (size : Option Weight) (t : Sought P f book shelf (take s.top words) words' cells s cells' tables (Seen.Clause i count size))
     (c : Span) (p : Placed book c.start c.head c.end c.bodies (clause_at P i)) (is : span_words book c ≡ clause_words book shelf (length P) i) where
   abbrev end : ℕ
   end = s.top + (c.end - c.start)

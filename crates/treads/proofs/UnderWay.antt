@@ -36,4 +36,4 @@ module _ {book words before levels : List ℕ} {s : Standing} {c : Span} {heap' 
     where
       core : Fitted (laid (used words s) s.base (span_words book c)) before s cells tables count → Weighs (laid (used words s) s.base (span_words book c)) cells s.base (trail tables) count grown
           → Adds (span_words book c) (laid (used words s) s.base (span_words book c)) cells s c (length (first_of (body_rows (laid (used words s) s.base (span_words book c)) s c))) more → Bounded (laid (used words s) s.base (span_words book c)) cells levels s c r
-      core fitted y x = bounded_so u.held (span_words book c) c d u.placed.clause u.room (heap-short u) words_long (u.placed.begins, u.placed.ends) fitted grown y charged.known more r charged sum x.how x.names x.few
+      core fitted y x = bounded_so u.held (span_words book c) c d u.placed.clause u.room (heap-short u) words_long (u.placed.begins, u.placed.ends) fitted grown y more r charged sum x.how x.names x.few

@@ -5,7 +5,6 @@ use Rattle.words.specs.Word.{Fits, nodes}
 use Rattle.heap.specs.Heap.{rows, Solved}
 use Rattle.bounds.specs.Places.{places}
 use Rattle.bounds.specs.Thrift.{fresh, Thrifty, Kept}
-use Rattle.bounds.specs.Sizing.{Known, plain}
 use Rattle.bounds.specs.declared.Weight.{Weight}
 use Rattle.heapgoals.specs.declared.Standing.{Standing}
 use Rattle.treads.specs.declared.sizing.Span.{Span}
@@ -65,7 +64,6 @@ pub record Summed (s : Standing) (more : Added) (extra places times : ℕ) (r : 
 
 -- so much comes by what is bound; so many places of goal and answer are charged for it
 pub record Charged (s : Standing) (grown : Weight) (count extra places times : ℕ) : Type 0 where
-  pub known : Known (plain grown)
   pub for : ℕ
   pub for_is : (for ≡ s.most * count) ⊎ (for ≡ s.variables)
   pub extra_is : extra ≡ for * (grown.nodes - 1)

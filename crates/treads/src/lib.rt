@@ -90,7 +90,7 @@ fn go(
     s: Standing,
     c: Span,
     count: usize,
-    known: Weight,
+    known: Option<Weight>,
 ) -> Tread
     requires { ((book : List ℕ) × (words : List ℕ) × (before : List ℕ) × (f : Expr) × (g : Goal) × (a : Goal) × (d : Clause) × IsUnderWay book words before levels.old s c heap.now cells.now rows.now count f g a d) × (length rows.now ≡ CELLS) × (s.depth < 256) × Weighed heap.now cells.now s.base (trail rows.now) count known }
     ensures { Went levels.old s c heap.now cells.now rows.now count levels.new result }

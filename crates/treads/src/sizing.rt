@@ -52,23 +52,31 @@ fn body_adds(heap: &[u32], cells: &[u16], levels: &mut [u16], s: Standing, c: Sp
     requires { ((book : List ℕ) × (words : List ℕ) × (before : List ℕ) × (rests : List ℕ) × (tables : List ℕ) × (count : ℕ) × (f : Expr) × (g : Goal) × (a : Goal) × (d : Clause) × IsUnderWay book words before rests s c heap.now cells.now tables count f g a d) × (514 ≤ length levels.old) }
     ensures { (book words before rests tables : List ℕ) (count : ℕ) (f : Expr) (g a : Goal) (d : Clause) → IsUnderWay book words before rests s c heap.now cells.now tables count f g a d → Adds (span_words book c) heap.now cells.now s c (length (first_of (body_rows heap.now s c))) result }
 {
-    let x = c.figure;
+    let first = c.figure.first;
     let head = c.head - c.start;
-    if x.fresh < OVER {
+    if let Some(x) = c.figure.thrift {
         return Added {
             nodes: c.end - c.head,
             less: head,
             variables: x.fresh,
-            least: led(s.least, x.whole, head, x.first),
+            least: led(s.least, x.whole, head, first),
             names: x.names,
         };
     }
-    let y = size_of(heap, cells, levels, s.top + head, c.bodies, 256);
+    let Some(y) = size_of(heap, cells, levels, s.top + head, c.bodies, 256) else {
+        return Added {
+            nodes: OVER,
+            less: 0,
+            variables: 0,
+            least: first,
+            names: 64,
+        };
+    };
     Added {
         nodes: y.nodes,
         less: 0,
         variables: y.variables,
-        least: x.first,
+        least: first,
         names: 64,
     }
 }
@@ -163,9 +171,6 @@ fn grown_by(s: Standing, more: Added, grown: Weight, count: usize) -> Bounds
     requires le_nodes { (1 ≤ grown.nodes) × (grown.nodes ≤ 65535) × (grown.variables ≤ grown.nodes) × (grown.times ≤ 553648129) }
     ensures { (result.nodes ≡ 65535 → ⊥) → Grows s more grown count result }
 {
-    if grown.nodes == OVER {
-        return unbounded();
-    }
     let extra = places_bound(s, count) * (grown.nodes - 1);
     bounded(s, more, extra, s.variables * grown.variables, grown.times)
 }
@@ -178,7 +183,7 @@ pub fn sized(
     s: Standing,
     c: Span,
     count: usize,
-    known: Weight,
+    known: Option<Weight>,
 ) -> Bounds
     requires { ((book : List ℕ) × (words : List ℕ) × (before : List ℕ) × (f : Expr) × (g : Goal) × (a : Goal) × (d : Clause) × IsUnderWay book words before levels.old s c heap.now cells.now rows.now count f g a d) × (length rows.now ≡ CELLS) × Weighed heap.now cells.now s.base (trail rows.now) count known }
     ensures levels { Fore levels.old levels.new }
@@ -188,13 +193,15 @@ pub fn sized(
     if count == 0 {
         return bounded(s, more, 0, s.variables, 1); // where a formula only asks, the clause's variables alone are bound
     }
-    let grown = weight_of(
+    let Some(grown) = weight_of(
         heap,
         cells,
         &mut levels[514..1028],
         &rows[16512..24960],
         count,
         known,
-    );
+    ) else {
+        return unbounded();
+    };
     grown_by(s, more, grown, count)
 }

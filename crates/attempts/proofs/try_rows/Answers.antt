@@ -17,7 +17,7 @@ pub release-requires-in-Tired : goal.release-requires-in-Tired
 release-requires-in-Tired c = let e = subst (Fitting _ _ _ c.begun-t.result _ _ _ _) c.in-Tired.is c.fit.ensures in (c.fit.auto.cells ∙ c.requires.0.long, same_len_mid 16512 8448 c.args.rows.now c.fit.new.trail c.fit.auto.trail ∙ c.requires.1, c.requires.0.room, (_, undoable c.requires.0 c.args.rows.now c.fit.new.cells c.fit.new.trail _ _ (trail-back c.args.rows.now c.fit.new.trail c.requires.1 c.fit.auto.trail) _ c.begun-t.ensures e.0 e.1))
 
 pub returns-in-Fits : goal.returns-in-Fits
-returns-in-Fits c = let e = subst (Fitting _ _ _ c.begun-t.result _ _ _ _) c.in-Fits.is c.fit.ensures in record { attempted = (record { more = e.0.0; undoable = undoable c.requires.0 c.args.rows.now c.fit.new.cells c.fit.new.trail _ _ (trail-back c.args.rows.now c.fit.new.trail c.requires.1 c.fit.auto.trail) _ c.begun-t.ensures e.0.1 e.0.3; unseen = e.0.3 }, weighed-back (ap (λ t. t.base) c.begun-t.ensures.2) (trail-back c.args.rows.now c.fit.new.trail c.requires.1 c.fit.auto.trail) e.1); levels = fore-part c.args.levels.now c.fit.new.levels c.requires.2 c.fit.auto.levels }
+returns-in-Fits c = let e = subst (Fitting _ _ _ c.begun-t.result _ _ _ _) c.in-Fits.is c.fit.ensures in record { attempted = (record { more = e.0.0; undoable = undoable c.requires.0 c.args.rows.now c.fit.new.cells c.fit.new.trail _ _ (trail-back c.args.rows.now c.fit.new.trail c.requires.1 c.fit.auto.trail) _ c.begun-t.ensures e.0.1 e.0.3; unseen = e.0.3 }, weighed-back c.args.heap.now c.fit.new.cells c.in-Fits.count c.in-Fits.size (ap (λ t. t.base) c.begun-t.ensures.2) (trail-back c.args.rows.now c.fit.new.trail c.requires.1 c.fit.auto.trail) e.1); levels = fore-part c.args.levels.now c.fit.new.levels c.requires.2 c.fit.auto.levels }
 
 pub returns-in-Clash : goal.returns-in-Clash
 returns-in-Clash c = let e = subst (Fitting _ _ _ c.begun-t.result _ _ _ _) c.in-Clash.is c.fit.ensures in record { attempted = (c.release.ensures _ (undoable c.requires.0 c.args.rows.now c.fit.new.cells c.fit.new.trail _ _ (trail-back c.args.rows.now c.fit.new.trail c.requires.1 c.fit.auto.trail) _ c.begun-t.ensures e.0 e.2), e.1); levels = fore-part c.args.levels.now c.fit.new.levels c.requires.2 c.fit.auto.levels }

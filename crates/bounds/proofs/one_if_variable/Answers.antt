@@ -1,9 +1,16 @@
 use native.Mathlib.Omega.{arith}
+use mathlib.Core.Path.{◌∙◌}
+use Rattle.std.proofs.Common.{lt-ltb, le-ltb}
+use Rattle.std.proofs.Math.Decide.{dec_lt}
 use Rattle.bounds.specs.CountLaws.{one-var, one-sym}
 use Rattle.bounds.proofs.one_if_variable.Goals as goal
 
-pub returns-then-u-lt-SYMBOL : goal.returns-then-u-lt-SYMBOL
-returns-then-u-lt-SYMBOL c = (one-var _ (omega (arith, c.requires.low, c.if-u-lt-SYMBOL.true)), omega arith)
-
 pub returns : goal.returns
-returns c = (one-sym _ (λ k. omega (arith, k, c.if-u-lt-SYMBOL.false)), omega arith)
+returns c = elim (dec_lt c.args.u 33554432) [
+  | yes l ↦
+      let e = rw (lt-ltb c.args.u 33554432 l) at c.from.ensures in
+      (e ∙ one-var c.args.u (omega (arith, c.requires.low, l)), omega (arith, e))
+  | no n ↦
+      let e = rw (le-ltb c.args.u 33554432 (omega (arith, n))) at c.from.ensures in
+      (e ∙ one-sym c.args.u (λ k. omega (arith, k, n)), omega (arith, e))
+]

@@ -25,13 +25,13 @@ pub overflow_sub-end : goal.overflow_sub-end
 overflow_sub-end c = let t = (subst (Sought _ _ _ _ _ _ _ _ _ _) c.in-Clause.is (c.first_fit.ensures.sought _ _ _ _ c.requires.book_on.4 c.requires.book_on.5)) in let p = (c.clause_at-c.ensures.placed _ c.requires.book_on.4 t.1) in omega (arith, p.0.begins, p.0.ends)
 
 pub overflow_add-end : goal.overflow_add-end
-overflow_add-end c = let t = (subst (Sought _ _ _ _ _ _ _ _ _ _) c.in-Clause.is (c.first_fit.ensures.sought _ _ _ _ c.requires.book_on.4 c.requires.book_on.5)) in let p = (c.clause_at-c.ensures.placed _ c.requires.book_on.4 t.1) in record { fits = omega (arith, clause-few c.requires.book_on.4 c.requires.book_on.5 (c.has_room.ensures c.if-not-has_room.false).0 (c.has_room.ensures c.if-not-has_room.false).1 c.requires.words_len_bound.0 c.first_fit.auto.words c.first_fit.ensures.levels t c.clause_at-c.result p.0 p.1, (c.has_room.ensures c.if-not-has_room.false).1, c.requires.words_len_bound.0) }
+overflow_add-end c = let t = (subst (Sought _ _ _ _ _ _ _ _ _ _) c.in-Clause.is (c.first_fit.ensures.sought _ _ _ _ c.requires.book_on.4 c.requires.book_on.5)) in let p = (c.clause_at-c.ensures.placed _ c.requires.book_on.4 t.1) in record { fits = omega (arith, clause-few c.requires.book_on.4 c.requires.book_on.5 (c.has_room.ensures c.if-not-has_room.false).0 (c.has_room.ensures c.if-not-has_room.false).1 c.requires.words_len_bound.0 c.first_fit.auto.words c.first_fit.ensures.levels c.in-Clause.known t c.clause_at-c.result p.0 p.1, (c.has_room.ensures c.if-not-has_room.false).1, c.requires.words_len_bound.0) }
 
 pub slice_bounds-go-end : goal.slice_bounds-go-end
-slice_bounds-go-end c = let t = (subst (Sought _ _ _ _ _ _ _ _ _ _) c.in-Clause.is (c.first_fit.ensures.sought _ _ _ _ c.requires.book_on.4 c.requires.book_on.5)) in let p = (c.clause_at-c.ensures.placed _ c.requires.book_on.4 t.1) in omega (arith, end-inside c.requires.book_on.4 c.requires.book_on.5 (c.has_room.ensures c.if-not-has_room.false).0 (c.has_room.ensures c.if-not-has_room.false).1 c.requires.words_len_bound.0 c.first_fit.auto.words c.first_fit.ensures.levels t c.clause_at-c.result p.0 p.1)
+slice_bounds-go-end c = let t = (subst (Sought _ _ _ _ _ _ _ _ _ _) c.in-Clause.is (c.first_fit.ensures.sought _ _ _ _ c.requires.book_on.4 c.requires.book_on.5)) in let p = (c.clause_at-c.ensures.placed _ c.requires.book_on.4 t.1) in omega (arith, end-inside c.requires.book_on.4 c.requires.book_on.5 (c.has_room.ensures c.if-not-has_room.false).0 (c.has_room.ensures c.if-not-has_room.false).1 c.requires.words_len_bound.0 c.first_fit.auto.words c.first_fit.ensures.levels c.in-Clause.known t c.clause_at-c.result p.0 p.1)
 
 pub go-requires : goal.go-requires
-go-requires c = let t = (subst (Sought _ _ _ _ _ _ _ _ _ _) c.in-Clause.is (c.first_fit.ensures.sought _ _ _ _ c.requires.book_on.4 c.requires.book_on.5)) in let p = (c.clause_at-c.ensures.placed _ c.requires.book_on.4 t.1) in ((_, _, _, _, _, _, _, under_way c.requires.book_on.4 c.requires.book_on.5 (c.has_room.ensures c.if-not-has_room.false).0 (c.has_room.ensures c.if-not-has_room.false).1 c.requires.words_len_bound.0 c.first_fit.auto.words c.first_fit.ensures.levels t c.clause_at-c.result p.0 p.1 c.clause_at-c.ensures.figure), c.first_fit.auto.rows ∙ c.requires.words_len_bound.1, (c.has_room.ensures c.if-not-has_room.false).2, weighed-there c.requires.book_on.4 c.requires.book_on.5 (c.has_room.ensures c.if-not-has_room.false).0 (c.has_room.ensures c.if-not-has_room.false).1 c.requires.words_len_bound.0 c.first_fit.auto.words c.first_fit.ensures.levels t c.clause_at-c.result p.0 p.1)
+go-requires c = let t = (subst (Sought _ _ _ _ _ _ _ _ _ _) c.in-Clause.is (c.first_fit.ensures.sought _ _ _ _ c.requires.book_on.4 c.requires.book_on.5)) in let p = (c.clause_at-c.ensures.placed _ c.requires.book_on.4 t.1) in ((_, _, _, _, _, _, _, under_way c.requires.book_on.4 c.requires.book_on.5 (c.has_room.ensures c.if-not-has_room.false).0 (c.has_room.ensures c.if-not-has_room.false).1 c.requires.words_len_bound.0 c.first_fit.auto.words c.first_fit.ensures.levels c.in-Clause.known t c.clause_at-c.result p.0 p.1 c.clause_at-c.ensures.figure), c.first_fit.auto.rows ∙ c.requires.words_len_bound.1, (c.has_room.ensures c.if-not-has_room.false).2, weighed-there c.requires.book_on.4 c.requires.book_on.5 (c.has_room.ensures c.if-not-has_room.false).0 (c.has_room.ensures c.if-not-has_room.false).1 c.requires.words_len_bound.0 c.first_fit.auto.words c.first_fit.ensures.levels c.in-Clause.known t c.clause_at-c.result p.0 p.1)
 
 pub release-requires : goal.release-requires
 release-requires c = let t = (subst (Sought _ _ _ _ _ _ _ _ _ _) c.in-Clause.is (c.first_fit.ensures.sought _ _ _ _ c.requires.book_on.4 c.requires.book_on.5)) in let p = (c.clause_at-c.ensures.placed _ c.requires.book_on.4 t.1) in (c.first_fit.auto.cells ∙ c.requires.book_on.5.cells_long, c.first_fit.auto.rows ∙ c.requires.words_len_bound.1, (c.has_room.ensures c.if-not-has_room.false).0, (_, t.2.fitted.undoable))
@@ -58,7 +58,7 @@ pub shape_of-stack-in-Goes : goal.shape_of-stack-in-Goes
 shape_of-stack-in-Goes c = stack_long c.args.stack.now c.first_fit.new.stack c.requires.words_len_bound.2 c.first_fit.auto.stack c.clause_at-c.new.figures c.clause_at-c.auto.figures
 
 pub returns-in-Goes : goal.returns-in-Goes
-returns-in-Goes c = record { words = c.first_fit.ensures.words; figured = subst (Figured _ _) (inv (figures-back c.args.stack.now c.first_fit.new.stack c.requires.words_len_bound.2 c.first_fit.auto.stack c.clause_at-c.new.figures c.clause_at-c.auto.figures)) c.clause_at-c.ensures.figured; treads = λ P f g a o h. let t = (subst (Sought _ _ _ _ _ _ _ _ _ _) c.in-Clause.is (c.first_fit.ensures.sought P f g a o h)) in let p = (c.clause_at-c.ensures.placed _ o t.1) in gone o h (c.has_room.ensures c.if-not-has_room.false).0 (c.has_room.ensures c.if-not-has_room.false).1 c.requires.words_len_bound.0 c.first_fit.auto.words c.first_fit.ensures.levels t c.clause_at-c.result p.0 p.1 c.clause_at-c.ensures.figure (subst (Went _ _ _ _ _ _ _ _) c.in-Goes.is c.go.ensures) }
+returns-in-Goes c = record { words = c.first_fit.ensures.words; figured = subst (Figured _ _) (inv (figures-back c.args.stack.now c.first_fit.new.stack c.requires.words_len_bound.2 c.first_fit.auto.stack c.clause_at-c.new.figures c.clause_at-c.auto.figures)) c.clause_at-c.ensures.figured; treads = λ P f g a o h. let t = (subst (Sought _ _ _ _ _ _ _ _ _ _) c.in-Clause.is (c.first_fit.ensures.sought P f g a o h)) in let p = (c.clause_at-c.ensures.placed _ o t.1) in gone o h (c.has_room.ensures c.if-not-has_room.false).0 (c.has_room.ensures c.if-not-has_room.false).1 c.requires.words_len_bound.0 c.first_fit.auto.words c.first_fit.ensures.levels c.in-Clause.known t c.clause_at-c.result p.0 p.1 c.clause_at-c.ensures.figure (subst (Went _ _ _ _ _ _ _ _) c.in-Goes.is c.go.ensures) }
 
 pub shape_of-words-in-Stays : goal.shape_of-words-in-Stays
 shape_of-words-in-Stays c = c.first_fit.auto.words

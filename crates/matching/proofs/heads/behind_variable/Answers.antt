@@ -1,4 +1,3 @@
-use native.Mathlib.Omega.{arith}
 use mathlib.Core.Path.{refl}
 use Rattle.heap.specs.HeapLaws.{row_inside}
 use Rattle.matching.proofs.PairLaws.{first-row-whole, behind_last, behind_more}
@@ -10,9 +9,6 @@ returns-then-x-eq1 c = behind_last c.args.heap.now c.args.x c.requires.2 c.requi
 
 pub past-requires : goal.past-requires
 past-requires c = (c.requires.0, first-row-whole c.args.heap.now c.args.x.due c.args.x.p c.requires.2 c.requires.3, c.requires.1)
-
-pub overflow_add-result : goal.overflow_add-result
-overflow_add-result c = record { fits = omega (arith, row_inside c.args.heap.now 0 c.args.x.q (first-row-whole c.args.heap.now c.args.x.due c.args.x.q c.requires.2 c.requires.4), c.requires.1) }
 
 pub returns : goal.returns
 returns c = behind_more c.args.heap.now c.args.x c.requires.2 c.requires.3 c.requires.4 c.past.ensures (variable-long c.args.heap.now c.args.x.q (row_inside c.args.heap.now 0 c.args.x.q (first-row-whole c.args.heap.now c.args.x.due c.args.x.q c.requires.2 c.requires.4)) c.requires.5) refl

@@ -14,20 +14,8 @@ follow-r-requires c = (c.requires.0, left_inside c.requires.0 c.args.x c.require
 pub returns-then-u-w : goal.returns-then-u-w
 returns-then-u-w c = λ base. (refl, unlike_symbols c.requires.0 c.args.x c.requires.2 c.requires.1.left c.requires.1.right c.follow-r.ensures (omega (arith, c.word-u.ensures, c.if-u-lt-SYMBOL.false)) (omega (arith, c.requires.3, c.requires.4)) (λ z. c.if-u-w.true (c.word-u.ensures ∙ z ∙ inv c.requires.3)))
 
-pub behind-requires : goal.behind-requires
-behind-requires c = ((λ y l. (c.requires.0.fits y l).valid), c.requires.0.short, c.requires.2, c.requires.1.left, c.requires.1.right)
-
 pub returns-then-k-eq0 : goal.returns-then-k-eq0
 returns-then-k-eq0 c = λ base. on-behind (more_same c.requires.0 (met_leaf c.requires.0 c.follow-r.ensures (symbol-here (right_inside c.requires.0 c.args.x c.requires.2 c.requires.1.left c.requires.1.right) (omega (arith, c.requires.3, c.requires.4))) (left-row c.requires.0 c.args.x c.requires.2 c.requires.1.left c.requires.1.right) (right-row c.requires.0 c.args.x c.requires.2 c.requires.1.left c.requires.1.right) (inv c.word-u.ensures ∙ c.if-u-w.false ∙ c.requires.3) (ap arity_of (inv c.word-u.ensures) ∙ inv c.arity-k.ensures.0 ∙ c.if-k-eq0.true))) (λ v l. refl) c.behind.ensures
-
-pub behind-rest-requires : goal.behind-rest-requires
-behind-rest-requires c = ((λ y l. (c.requires.0.fits y l).valid), c.requires.0.short, c.requires.2, c.requires.1.left, c.requires.1.right)
-
-pub overflow_add-r : goal.overflow_add-r
-overflow_add-r c = record { fits = omega (arith, c.follow-r.ensures.row.inside, c.requires.0.short) }
-
-pub overflow_add-x : goal.overflow_add-x
-overflow_add-x c = record { fits = omega (arith, right_inside c.requires.0 c.args.x c.requires.2 c.requires.1.left c.requires.1.right, c.requires.0.short) }
 
 pub entered-requires : goal.entered-requires
 entered-requires c = (omega (arith, c.behind-rest.ensures.depth, c.if-x-ge-DEEP.false), omega (arith, c.behind-rest.ensures.left_inside, c.requires.0.short), omega (arith, c.behind-rest.ensures.right_inside, c.requires.0.short), omega (arith, c.behind-rest.ensures.due, rows_few c.args.heap.now c.args.x.due c.args.x.p c.requires.1.left, c.requires.0.short), omega (arith, c.behind-rest.ensures.depth, c.if-x-ge-DEEP.false, c.requires.5))

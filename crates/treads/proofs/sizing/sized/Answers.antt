@@ -24,7 +24,7 @@ pub bounded-requires : goal.bounded-requires
 bounded-requires c = let x = c.body_adds-more.ensures _ _ _ _ _ _ _ _ _ _ c.requires.0.7 in record { most_bound = (c.requires.0.7.held.often_room, c.requires.0.7.held.goal_room, c.requires.0.7.held.answer_room, known-most c.body_adds-more.result.nodes 256 (omega arith) x.small, x.spread); extra_bound = (omega arith, omega (arith, c.requires.0.7.held.variables_room), omega arith) }
 
 pub returns-then-count-eq0 : goal.returns-then-count-eq0
-returns-then-count-eq0 c = record { levels = fore-part c.args.levels.now c.body_adds-more.new.levels c.requires.0.7.held.levels_long c.body_adds-more.auto.levels; bounds = λ n book words before f g a d v. bounds_hold v (record { nodes = 1; variables = 1; times = 1 }) (none-weighed c.if-count-eq0.true refl (λ e. omega (arith, e))) c.body_adds-more.result (c.body_adds-more.ensures _ _ _ _ _ _ _ _ _ _ v) c.bounded.result (0, _, 1, nothing-charged c.args.s c.args.count, c.bounded.ensures n) }
+returns-then-count-eq0 c = record { levels = fore-part c.args.levels.now c.body_adds-more.new.levels c.requires.0.7.held.levels_long c.body_adds-more.auto.levels; bounds = λ n book words before f g a d v. bounds_hold v (record { nodes = 1; variables = 1; times = 1 }) (none-weighed c.if-count-eq0.true refl) c.body_adds-more.result (c.body_adds-more.ensures _ _ _ _ _ _ _ _ _ _ v) c.bounded.result (0, _, 1, nothing-charged c.args.s c.args.count, c.bounded.ensures n) }
 
 pub slice_bounds-weight_of-count : goal.slice_bounds-weight_of-count
 slice_bounds-weight_of-count c = omega arith
@@ -38,11 +38,14 @@ slice_bounds-weight_of-count-2 c = omega arith
 pub slice_bounds-weight_of-end-2 : goal.slice_bounds-weight_of-end-2
 slice_bounds-weight_of-end-2 c = omega (arith, c.requires.1)
 
-pub weight_of-grown-requires : goal.weight_of-grown-requires
-weight_of-grown-requires c = let l = put_mid 514 514 c.args.levels.now c.body_adds-more.new.levels in record { made = (c.requires.0.7.fitted.more.made, record { each = c.requires.0.7.fitted.undoable.trailed.held }); in_bounds = (omega (arith, length-take-le 514 (drop 514 l) (omega (arith, length-drop 514 l, same_len_mid 514 514 c.args.levels.now c.body_adds-more.new.levels c.body_adds-more.auto.levels, c.requires.0.7.held.levels_long))), omega (arith, trail_long c.args.rows.now c.requires.1, c.requires.0.7.fitted.undoable.few), c.requires.0.7.fitted.undoable.few) }
+pub weight_of-requires : goal.weight_of-requires
+weight_of-requires c = let l = put_mid 514 514 c.args.levels.now c.body_adds-more.new.levels in record { made = (c.requires.0.7.fitted.more.made, record { each = c.requires.0.7.fitted.undoable.trailed.held }); in_bounds = (omega (arith, length-take-le 514 (drop 514 l) (omega (arith, length-drop 514 l, same_len_mid 514 514 c.args.levels.now c.body_adds-more.new.levels c.body_adds-more.auto.levels, c.requires.0.7.held.levels_long))), omega (arith, trail_long c.args.rows.now c.requires.1, c.requires.0.7.fitted.undoable.few), c.requires.0.7.fitted.undoable.few) }
 
 pub grown_by-requires : goal.grown_by-requires
-grown_by-requires c = let x = c.body_adds-more.ensures _ _ _ _ _ _ _ _ _ _ c.requires.0.7 in let y = c.weight_of-grown.ensures _ c.requires.2 in record { variables_bound = (c.requires.0.7.held.variables_room, c.requires.0.7.held.often_room, c.requires.0.7.held.goal_room, c.requires.0.7.held.answer_room, known-most c.body_adds-more.result.nodes 256 (omega arith) x.small, x.spread, c.requires.0.7.fitted.undoable.few); le_nodes = (y.grown.some, known-most c.weight_of-grown.result.nodes 4096 (omega arith) y.grown.low, y.grown.few, y.room) }
+grown_by-requires c = let x = c.body_adds-more.ensures _ _ _ _ _ _ _ _ _ _ c.requires.0.7 in let y = (c.in-Some.ensures _ c.requires.2) in record { variables_bound = (c.requires.0.7.held.variables_room, c.requires.0.7.held.often_room, c.requires.0.7.held.goal_room, c.requires.0.7.held.answer_room, known-most c.body_adds-more.result.nodes 256 (omega arith) x.small, x.spread, c.requires.0.7.fitted.undoable.few); le_nodes = (y.grown.some, omega (arith, y.grown.low), y.grown.few, y.room) }
+
+pub returns-in_default-clause-levels : goal.returns-in_default-clause-levels
+returns-in_default-clause-levels c = let l = put_mid 514 514 c.args.levels.now c.body_adds-more.new.levels in fore-after (fore-part c.args.levels.now c.body_adds-more.new.levels c.requires.0.7.held.levels_long c.body_adds-more.auto.levels) (fore-part l c.weight_of.new.levels (same_len_mid 514 514 c.args.levels.now c.body_adds-more.new.levels c.body_adds-more.auto.levels ∙ c.requires.0.7.held.levels_long) c.weight_of.auto.levels)
 
 pub returns : goal.returns
-returns c = let l = put_mid 514 514 c.args.levels.now c.body_adds-more.new.levels in record { levels = fore-after (fore-part c.args.levels.now c.body_adds-more.new.levels c.requires.0.7.held.levels_long c.body_adds-more.auto.levels) (fore-part l c.weight_of-grown.new.levels (same_len_mid 514 514 c.args.levels.now c.body_adds-more.new.levels c.body_adds-more.auto.levels ∙ c.requires.0.7.held.levels_long) c.weight_of-grown.auto.levels); bounds = λ n book words before f g a d v. bounds_hold v c.weight_of-grown.result (c.weight_of-grown.ensures _ c.requires.2) c.body_adds-more.result (c.body_adds-more.ensures _ _ _ _ _ _ _ _ _ _ v) c.grown_by.result (c.grown_by.ensures n) }
+returns c = let l = put_mid 514 514 c.args.levels.now c.body_adds-more.new.levels in record { levels = fore-after (fore-part c.args.levels.now c.body_adds-more.new.levels c.requires.0.7.held.levels_long c.body_adds-more.auto.levels) (fore-part l c.weight_of.new.levels (same_len_mid 514 514 c.args.levels.now c.body_adds-more.new.levels c.body_adds-more.auto.levels ∙ c.requires.0.7.held.levels_long) c.weight_of.auto.levels); bounds = λ n book words before f g a d v. bounds_hold v c.in-Some.grown (c.in-Some.ensures _ c.requires.2) c.body_adds-more.result (c.body_adds-more.ensures _ _ _ _ _ _ _ _ _ _ v) c.grown_by.result (c.grown_by.ensures n) }
