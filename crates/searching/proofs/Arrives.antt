@@ -6,8 +6,9 @@ use mathlib.Core.List.{List, ◌++◌}
 use lib.ListN.{length, take, drop}
 use Rattle.search.specs.Next.{Book, Goal}
 use Rattle.states.specs.declared.Place.{Place}
-use Rattle.states.specs.declared.Turn.{Turn}
-use Rattle.states.specs.declared.Turn.TheVariants.{Open, Shut}
+use Rattle.states.specs.declared.Ended.{Ended}
+use Rattle.std.specs.declared.result.Result.{Result}
+use Rattle.std.specs.declared.result.Result.TheVariants.{Ok, Err}
 use Rattle.states.specs.States.{Reached, Somewhere, Opens, Turned, Onward, Looked}
 use Rattle.states.proofs.Copies.{copied-length, copied-front}
 use Rattle.states.proofs.Visits.{reheld, reopened}
@@ -34,11 +35,11 @@ module _ (goal saved out : List ℕ) (c : Come) (z : Arriving goal saved out c) 
     pub come-somewhere : Somewhere goal' saved c.detector c.words c.formulas c.answer c.kept
     come-somewhere = let a = z.some_arrived in (a.0, a.1, a.2, there a.4.here)
 
-    pub come-entered : (r : Turn) → Looked goal' saved c.detector c.words c.formulas c.answer c.kept r → Entered saved out c goal' r
+    pub come-entered : (r : Result Place Ended) → Looked goal' saved c.detector c.words c.formulas c.answer c.kept r → Entered saved out c goal' r
     come-entered r l = record { turn = λ P q budget since a. l.turn P q budget (there a.here); step = l.step }
 
 -- an open state, before its ride and after it
-module _ (goal saved : List ℕ) (budget answers : ℕ) (t : Turn) (p : Place) (e : t ≡ Open p) (P : Book) (q : Goal) (x : Turned P q budget goal saved t) {first : List ℕ} {j : ℕ} (asked : Asked first j answers q) where
+module _ (goal saved : List ℕ) (budget answers : ℕ) (t : Result Place Ended) (p : Place) (e : t ≡ Ok p) (P : Book) (q : Goal) (x : Turned P q budget goal saved t) {first : List ℕ} {j : ℕ} (asked : Asked first j answers q) where
   abbrev start : Start
   start = start_of p answers budget
 
@@ -61,13 +62,13 @@ module _ (goal saved : List ℕ) (budget answers : ℕ) (t : Turn) (p : Place) (
       pub came-arrived : Arrived P q budget p.detector.step saved' out c
       came-arrived = subst (Rode P q saved start saved' out) i y
 
-      module _ (goal' : List ℕ) (u : Turn) (z : Entered saved' out c goal' u) where
+      module _ (goal' : List ℕ) (u : Result Place Ended) (z : Entered saved' out c goal' u) where
         pub came-turn : Turned P q budget goal' saved' u
         came-turn = z.turn P q budget p.detector.step came-arrived
 
-        later : (v : Turn) → Onward c.detector.step v → Turned P q budget goal' saved' v → left budget v < suc (budget - p.detector.step)
-        later (Open p') s x = omega (arith, came-arrived.later, s, x.here.allowed)
-        later (Shut d) s x = omega arith
+        later : (v : Result Place Ended) → Onward c.detector.step v → Turned P q budget goal' saved' v → left budget v < suc (budget - p.detector.step)
+        later (Ok p') s x = omega (arith, came-arrived.later, s, x.here.allowed)
+        later (Err d) s x = omega arith
 
         pub came-less : left budget u < left budget t
         came-less = rw e (later u z.step came-turn)

@@ -1,11 +1,10 @@
 // The state after an open one.
-ghost use Rattle.searching.specs.Searching.{Moving, Moved, Following, Followed, Arriving, Entered};
+ghost use Rattle.searching.specs.Searching.{Moving, Moved, Spent, Following, Followed, Arriving, Entered};
 
 use resolve::Move;
 use rides::Come;
-use states::closing::{close, close_stuck};
 use states::leftmost::{copy_words, keep};
-use states::{Place, Turn, look};
+use states::{Ended, Place, look};
 
 // The next row: how many words are its goal's and its answer's, and how many formulas its goal has.
 #[derive(Clone, Copy)]
@@ -16,11 +15,10 @@ pub struct Onto {
 }
 
 // The row that a ride or a step has written, put in its place, and the state looked at.
-pub fn arrive(goal: &mut [u32], saved: &[u32], out: &[u32], come: Come) -> Turn
+pub fn arrive(goal: &mut [u32], saved: &[u32], out: &[u32], come: Come) -> Result<Place, Ended>
     requires { Arriving goal.old saved.now out.now come }
     ensures { Entered saved.now out.now come goal.new result }
 {
-    let detector = come.detector;
     copy_words(out, goal, come.words + come.answer);
     look(
         goal,
@@ -29,13 +27,19 @@ pub fn arrive(goal: &mut [u32], saved: &[u32], out: &[u32], come: Come) -> Turn
         come.answer,
         saved,
         come.kept,
-        detector,
+        come.detector,
     )
 }
 
 // The state after an open one whose next goal is there and fits, and its answer too: "if t is on the schedule or G is shorter than l, save
 // G's length and leftmost formula; then t grows by one".
-fn move_on(goal: &mut [u32], saved: &mut [u32], out: &[u32], place: Place, next: Onto) -> Turn
+fn move_on(
+    goal: &mut [u32],
+    saved: &mut [u32],
+    out: &[u32],
+    place: Place,
+    next: Onto,
+) -> Result<Place, Ended>
     requires { Moving goal.old saved.old out.now place next }
     ensures { Moved goal.old saved.old out.now place next goal.new saved.new result }
 {
@@ -54,6 +58,16 @@ fn move_on(goal: &mut [u32], saved: &mut [u32], out: &[u32], place: Place, next:
     arrive(goal, saved, out, come)
 }
 
+// A step more, unless "t equals the budget, 23".
+fn spend(place: Place, budget: u32) -> Result<(), Ended>
+    ensures { Spent place budget result }
+{
+    if place.detector.step == budget {
+        return Err(place.close(23));
+    }
+    Ok(())
+}
+
 // The other tests of a state, from what the book says to its goal: "no head unifies, 22" or 26 in its place; "t equals the
 // budget, 23; next goal too big, 24"; the next answer too big, 27 (document 02, C-11). "Otherwise" the next state.
 pub fn follow(
@@ -63,40 +77,29 @@ pub fn follow(
     place: Place,
     next: Move,
     budget: u32,
-) -> Turn
+) -> Result<Place, Ended>
     requires { Following goal.old saved.old out.now place next budget }
     ensures { Followed goal.old saved.old out.now place next budget goal.new saved.new result }
 {
-    let detector = place.detector;
     match next {
-        Move::Stuck(clause, argument) => {
-            return close_stuck(place, clause, argument);
-        }
-        Move::Unknown => {
-            return close(26, detector, 0, place.words, place.formulas, place.answer);
-        }
+        Move::Stuck(clause, argument) => Err(place.close_stuck(clause, argument)),
+        Move::Unknown => Err(place.close(26)),
         Move::Full => {
-            if detector.step == budget {
-                return close(23, detector, 0, place.words, place.formulas, place.answer);
-            }
-            return close(24, detector, 0, place.words, place.formulas, place.answer);
+            spend(place, budget)?;
+            Err(place.close(24))
         }
         Move::Over => {
-            if detector.step == budget {
-                return close(23, detector, 0, place.words, place.formulas, place.answer);
-            }
-            return close(27, detector, 0, place.words, place.formulas, place.answer);
+            spend(place, budget)?;
+            Err(place.close(27))
         }
         Move::To(_, words, answer, formulas) => {
-            if detector.step == budget {
-                return close(23, detector, 0, place.words, place.formulas, place.answer);
-            }
+            spend(place, budget)?;
             let row = Onto {
                 words,
                 answer,
                 formulas,
             };
-            return move_on(goal, saved, out, place, row);
+            move_on(goal, saved, out, place, row)
         }
     }
 }

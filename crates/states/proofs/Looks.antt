@@ -9,16 +9,19 @@ use Rattle.terms.specs.Node.{Expr}
 use Rattle.search.specs.Next.{Goal}
 use Rattle.words.specs.Held.{GoalIn}
 use Rattle.detector.specs.declared.Detector.{Detector}
-use Rattle.detector.specs.declared.Verdict.{Verdict}
-use Rattle.detector.specs.declared.Verdict.TheVariants.{Loop, Open}
-use Rattle.states.specs.declared.Turn.{Turn}
+use Rattle.std.specs.declared.option.Option.{Option}
+use Rattle.std.specs.declared.option.Option.TheVariants.{Some, None}
+use Rattle.std.specs.declared.result.Result.{Result}
+use Rattle.std.specs.declared.result.Result.TheVariants.{Err}
+use Rattle.states.specs.declared.Place.{Place}
+use Rattle.states.specs.declared.Ended.{Ended}
 use Rattle.detector.specs.Detecting.{judgement}
 use Rattle.states.specs.States.{Equal, Somewhere, closed, Onward, OfSize, Looked}
 use Rattle.states.proofs.Fronts.{held_first, kept-within, front-within}
 use Rattle.states.proofs.Turns.{turn_of, solved-ends, judged-turn}
 
 module _ (goal saved : List ℕ) (d : Detector) (n m w k : ℕ) where
-  pub look-solved : (t : Turn) → m ≡ 0 → t ≡ closed 20 d 0 n m w → Looked goal saved d n m w k t
+  pub look-solved : (t : Result Place Ended) → m ≡ 0 → t ≡ Err (closed 20 d 0 n m w) → Looked goal saved d n m w k t
   look-solved t z e = subst (Looked goal saved d n m w k) (inv e) (record { turn = λ P q budget r. solved-ends r z; step = tt; sized = (refl, refl) })
 
   module _ (filled : m ≡ 0 → ⊥) (words : ℕ) (all : words ≡ n) where
@@ -38,16 +41,16 @@ module _ (goal saved : List ℕ) (d : Detector) (n m w k : ℕ) where
           let h = subst (λ j. GoalIn (take j goal) m (x.0 ∷ x.1)) all x.2 in
           (omega (arith, front-within goal n m x.0 x.1 h y.3.within front (ends x.0 x.1 x.2), y.3.within), kept-within saved k y.3.state.saved y.3.keeps)
 
-      turn_step : (v : Verdict) → Onward d.step (turn_of d n m w k front v)
-      turn_step (Loop span) = tt
-      turn_step Open = refl
+      turn_step : (v : Option ℕ) → Onward d.step (turn_of d n m w k front v)
+      turn_step (Some span) = tt
+      turn_step None = refl
 
-      turn-size : (v : Verdict) → OfSize n w (turn_of d n m w k front v)
-      turn-size (Loop span) = (refl, refl)
-      turn-size Open = (refl, refl)
+      turn-size : (v : Option ℕ) → OfSize n w (turn_of d n m w k front v)
+      turn-size (Some span) = (refl, refl)
+      turn-size None = (refl, refl)
 
-      pub look-judged : (same : Bool) → Equal (take front goal) (take k saved) same → (v : Verdict) → v ≡ judgement d m same → (d' : Detector) → d' ≡ d
-          → (t : Turn) → t ≡ turn_of d' n m w k front v → Looked goal saved d n m w k t
+      pub look-judged : (same : Bool) → Equal (take front goal) (take k saved) same → (v : Option ℕ) → v ≡ judgement d m same → (d' : Detector) → d' ≡ d
+          → (t : Result Place Ended) → t ≡ turn_of d' n m w k front v → Looked goal saved d n m w k t
       look-judged same s v j d' e t i =
           subst (Looked goal saved d n m w k) (inv (i ∙ ap (λ (x : Detector). turn_of x n m w k front v) e))
           (record {

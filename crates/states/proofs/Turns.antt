@@ -23,19 +23,21 @@ use Rattle.search.specs.Answer.{small, next_answer, answer_at, close_with, as_be
 use Rattle.search.proofs.AnswerLaws.{answer-next, ending, answered_iff}
 use Rattle.words.specs.Held.{GoalIn}
 use Rattle.detector.specs.declared.Detector.{Detector}
-use Rattle.detector.specs.declared.Verdict.{Verdict}
+use Rattle.std.specs.declared.option.Option.{Option as Maybe}
 use Rattle.states.specs.declared.Place.{Place}
-use Rattle.states.specs.declared.Turn.{Turn}
-use Rattle.states.specs.declared.Turn.TheVariants.{Open}
+use Rattle.states.specs.declared.Ended.{Ended}
+use Rattle.std.specs.declared.option.Option.TheVariants.{Some, None}
+use Rattle.std.specs.declared.result.Result.{Result}
+use Rattle.std.specs.declared.result.Result.TheVariants.{Ok, Err}
 use Rattle.detector.specs.Detecting.{judgement}
 use Rattle.states.specs.States.{Equal, Reached, Ends, closed, Opens, Turned, stuck_at}
 use Rattle.states.proofs.Verdicts.{verdict-is, moved-goal}
 use Rattle.states.proofs.Fronts.{held-empty, saved-same, saved-other}
 
 -- the turn that comes of the detector's verdict
-abbrev pub turn_of : Detector → ℕ → ℕ → ℕ → ℕ → ℕ → Verdict → Turn
-turn_of d n m w k front (Verdict.Loop span) = closed 21 d span n m w
-turn_of d n m w k front Verdict.Open = Open (record { detector = d; words = n; formulas = m; answer = w; kept = k; front = front })
+abbrev pub turn_of : Detector → ℕ → ℕ → ℕ → ℕ → ℕ → Maybe ℕ → Result Place Ended
+turn_of d n m w k front (Some span) = Err (closed 21 d span n m w)
+turn_of d n m w k front None = Ok (record { detector = d; words = n; formulas = m; answer = w; kept = k; front = front })
 
 module _ {P : Book} {q : Goal} {budget : ℕ} {goal saved : List ℕ} {d : Detector} {n m w k : ℕ} (r : Reached P q budget goal saved d n m w k) where
   abbrev s : State Expr
@@ -88,15 +90,15 @@ module _ {P : Book} {q : Goal} {budget : ℕ} {goal saved : List ℕ} {d : Detec
     opened : ¬ Detected s → Opens P q budget goal saved (record { detector = d; words = n; formulas = m; answer = w; kept = k; front = front })
     opened x = record { here = r; formula = f; rest = g; is = is; front = ends_at; new = x }
 
-    turned : (same far : Bool) → leb d.length m ≡ far → Equal (take front goal) (take k saved) same → Turned P q budget goal saved (turn_of d n m w k front ((same && far) ⇒ Verdict.Loop (d.step - d.saved) ∣ Verdict.Open))
+    turned : (same far : Bool) → leb d.length m ≡ far → Equal (take front goal) (take k saved) same → Turned P q budget goal saved (turn_of d n m w k front ((same && far) ⇒ Some (d.step - d.saved) ∣ None))
     turned true true e x =
         let y = looped x (leb-true d.length m e) in
         ends 21 (d.step - d.saved) no_figures (code_21 (verdict-is P s (loop (d.step - d.saved)) (y, omega (arith, numbered, r.from)))) (figures-other P 21 s.goal (λ z. omega arith))
     turned true false e x = opened (shorter (leb-false d.length m e))
     turned false far e x = opened (other x)
 
-    pub judged-turn : (same : Bool) (v : Verdict) → v ≡ judgement d m same → Equal (take front goal) (take k saved) same → Turned P q budget goal saved (turn_of d n m w k front v)
-    judged-turn same v e x = subst (λ (u : Verdict). Turned P q budget goal saved (turn_of d n m w k front u)) (inv e) (turned same (leb d.length m) refl x)
+    pub judged-turn : (same : Bool) (v : Maybe ℕ) → v ≡ judgement d m same → Equal (take front goal) (take k saved) same → Turned P q budget goal saved (turn_of d n m w k front v)
+    judged-turn same v e x = subst (λ (u : Maybe ℕ). Turned P q budget goal saved (turn_of d n m w k front u)) (inv e) (turned same (leb d.length m) refl x)
 
 -- An open state, and what the book says to its goal.
 module _ {P : Book} {q : Goal} {budget : ℕ} {goal saved : List ℕ} {p : Place} (o : Opens P q budget goal saved p) where
@@ -116,13 +118,13 @@ module _ {P : Book} {q : Goal} {budget : ℕ} {goal saved : List ℕ} {p : Place
   goes_on h e = verdict-is P state (go_on (move (saves state) state h)) (filled, o.new, h, next_of (some h) e, refl)
 
   abbrev Closing : ℕ → Type 0
-  Closing code = Turned P q budget goal saved (closed code p.detector 0 p.words p.formulas p.answer)
+  Closing code = Turned P q budget goal saved (Err (closed code p.detector 0 p.words p.formulas p.answer))
 
   halts : Next none → verdict P state ≡ stuck
   halts e = verdict-is P state stuck (filled, o.new, next_of none e)
 
   pub stuck-ends : (k a : ℕ) → Next none → Knows P (o.formula ∷ o.rest) → stuck_figures P (o.formula ∷ o.rest) ≡ record { clause = k; argument = a }
-      → Turned P q budget goal saved (stuck_at p k a)
+      → Turned P q budget goal saved (Err (stuck_at p k a))
   stuck-ends k a e h w =
       ends o.here 22 0 (record { clause = k; argument = a }) (code_22 (halts e) (subst (Knows P) (inv o.is) h))
       (figures_22 P state.goal ∙ ap (stuck_figures P) o.is ∙ w)

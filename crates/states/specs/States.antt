@@ -12,8 +12,8 @@ use Rattle.words.specs.Held.{FormulasIn, GoalIn}
 use Rattle.detector.specs.declared.Detector.{Detector}
 use Rattle.states.specs.declared.Place.{Place}
 use Rattle.states.specs.declared.Ended.{Ended}
-use Rattle.states.specs.declared.Turn.{Turn}
-use Rattle.states.specs.declared.Turn.TheVariants.{Open, Shut}
+use Rattle.std.specs.declared.result.Result.{Result}
+use Rattle.std.specs.declared.result.Result.TheVariants.{Ok, Err}
 
 -- whether two lists of words are equal
 abbrev pub Equal : List ℕ → List ℕ → Bool → Type 0
@@ -61,8 +61,8 @@ pub record Ends (P : Book) (q : Goal) (budget : ℕ) (goal : List ℕ) (e : Ende
   pub answer : FormulasIn 8192 (take e.answer (drop e.words goal)) (length said) said
   pub answer_within : e.words + e.answer ≤ length goal
 
-abbrev pub closed : ℕ → Detector → ℕ → ℕ → ℕ → ℕ → Turn
-closed code d span n m w = Shut (record { code = code; steps = d.step; span = span; words = n; formulas = m; answer = w; clause = 0; argument = 0 })
+abbrev pub closed : ℕ → Detector → ℕ → ℕ → ℕ → ℕ → Ended
+closed code d span n m w = record { code = code; steps = d.step; span = span; words = n; formulas = m; answer = w; clause = 0; argument = 0 }
 
 -- the state at a place is neither solved nor a loop
 pub record Opens (P : Book) (q : Goal) (budget : ℕ) (goal saved : List ℕ) (p : Place) : Type 0 where
@@ -73,26 +73,26 @@ pub record Opens (P : Book) (q : Goal) (budget : ℕ) (goal saved : List ℕ) (p
   pub front : p.front ≡ length formula
   pub new : ¬ Detected here.state
 
-abbrev pub Turned : Book → Goal → ℕ → List ℕ → List ℕ → Turn → Type 0
-Turned P q budget goal saved (Open p) = Opens P q budget goal saved p
-Turned P q budget goal saved (Shut e) = Ends P q budget goal e
+abbrev pub Turned : Book → Goal → ℕ → List ℕ → List ℕ → Result Place Ended → Type 0
+Turned P q budget goal saved (Ok p) = Opens P q budget goal saved p
+Turned P q budget goal saved (Err e) = Ends P q budget goal e
 
 -- the state at a place is stuck, and k is the clause that got furthest
-abbrev pub stuck_at : Place → ℕ → ℕ → Turn
-stuck_at p k a = Shut (record { code = 22; steps = p.detector.step; span = 0; words = p.words; formulas = p.formulas; answer = p.answer; clause = k; argument = a })
+abbrev pub stuck_at : Place → ℕ → ℕ → Ended
+stuck_at p k a = record { code = 22; steps = p.detector.step; span = 0; words = p.words; formulas = p.formulas; answer = p.answer; clause = k; argument = a }
 
 -- an open turn is at step t
-abbrev pub Onward : ℕ → Turn → Type 0
-Onward t (Open p) = p.detector.step ≡ t
-Onward t (Shut e) = Unit {0}
+abbrev pub Onward : ℕ → Result Place Ended → Type 0
+Onward t (Ok p) = p.detector.step ≡ t
+Onward t (Err e) = Unit {0}
 
 -- a turn's goal has n words, and its answer w
-abbrev pub OfSize : ℕ → ℕ → Turn → Type 0
-OfSize n w (Open p) = (p.words ≡ n) × (p.answer ≡ w)
-OfSize n w (Shut e) = (e.words ≡ n) × (e.answer ≡ w)
+abbrev pub OfSize : ℕ → ℕ → Result Place Ended → Type 0
+OfSize n w (Ok p) = (p.words ≡ n) × (p.answer ≡ w)
+OfSize n w (Err e) = (e.words ≡ n) × (e.answer ≡ w)
 
 -- the state that is held is solved, a loop, or open
-pub record Looked (goal saved : List ℕ) (d : Detector) (n m w k : ℕ) (r : Turn) : Type 0 where
+pub record Looked (goal saved : List ℕ) (d : Detector) (n m w k : ℕ) (r : Result Place Ended) : Type 0 where
   pub turn : (P : Book) (q : Goal) (budget : ℕ) → Reached P q budget goal saved d n m w k → Turned P q budget goal saved r
   pub step : Onward d.step r
   pub sized : OfSize n w r

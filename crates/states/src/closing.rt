@@ -2,7 +2,7 @@
 ghost use Rattle.std.specs.Prelude.{◌≡◌};
 ghost use Rattle.states.specs.States.{closed, stuck_at};
 
-use crate::{Ended, Place, Turn};
+use crate::{Ended, Place};
 use detector::Detector;
 
 pub fn close(
@@ -12,10 +12,10 @@ pub fn close(
     words: usize,
     formulas: usize,
     answer: usize,
-) -> Turn
+) -> Ended
     ensures { result ≡ closed code detector span words formulas answer }
 {
-    Turn::Shut(Ended {
+    Ended {
         code,
         steps: detector.step,
         span,
@@ -24,20 +24,32 @@ pub fn close(
         answer,
         clause: 0,
         argument: 0,
-    })
+    }
 }
 
-pub fn close_stuck(place: Place, clause: usize, argument: usize) -> Turn
-    ensures { result ≡ stuck_at place clause argument }
-{
-    Turn::Shut(Ended {
-        code: 22,
-        steps: place.detector.step,
-        span: 0,
-        words: place.words,
-        formulas: place.formulas,
-        answer: place.answer,
-        clause,
-        argument,
-    })
+impl Place {
+    // An open state that closes; it is no loop.
+    pub fn close(self, code: u8) -> Ended
+        ensures { result ≡ closed code self.detector 0 self.words self.formulas self.answer }
+    {
+        close(
+            code,
+            self.detector,
+            0,
+            self.words,
+            self.formulas,
+            self.answer,
+        )
+    }
+
+    // An open state that closes with 22: "the clause that got furthest", and the argument at which its head fails.
+    pub fn close_stuck(self, clause: usize, argument: usize) -> Ended
+        ensures { result ≡ stuck_at self clause argument }
+    {
+        Ended {
+            clause,
+            argument,
+            ..self.close(22)
+        }
+    }
 }

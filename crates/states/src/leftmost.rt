@@ -2,40 +2,20 @@
 ghost use Rattle.std.specs.Prelude.{◌≤◌, ◌≡◌, ◌++◌, length, take, drop};
 ghost use Rattle.states.specs.States.{Equal, Keeps};
 
-fn same_words(a: &[u32], b: &[u32], n: usize) -> bool
-    requires { (n ≤ length a.now) × (n ≤ length b.now) }
-    ensures { Equal (take n a.now) (take n b.now) result }
-{
-    let mut i = 0;
-    while i < n {
-        if a[i] != b[i] {
-            return false;
-        }
-        i += 1;
-    }
-    true
-}
-
 // Whether the leftmost formula, of `front` words, is the saved one, of `kept` words.
 pub fn same_front(goal: &[u32], front: usize, saved: &[u32], kept: usize) -> bool
     requires { (front ≤ length goal.now) × (kept ≤ length saved.now) }
     ensures { Equal (take front goal.now) (take kept saved.now) result }
 {
-    if front != kept {
-        return false;
-    }
-    same_words(goal, saved, front)
+    goal[..front] == saved[..kept]
 }
 
+// A row, or a formula, written over the front of another.
 pub fn copy_words(src: &[u32], dst: &mut [u32], n: usize)
     requires { (n ≤ length src.now) × (n ≤ length dst.old) }
     ensures { dst.new ≡ take n src.now ++ drop n dst.old }
 {
-    let mut i = 0;
-    while i < n {
-        dst[i] = src[i];
-        i += 1;
-    }
+    dst[..n].copy_from_slice(&src[..n]);
 }
 
 // Saves the leftmost formula, if that is due; answers how many words are saved.

@@ -5,7 +5,7 @@ ghost use Rattle.states.specs.States.{Somewhere, Looked};
 
 use crate::closing::close;
 use crate::leftmost::same_front;
-use detector::{Detector, Verdict};
+use detector::{Detector, Judged};
 use picking::extent;
 
 pub mod leftmost; // the leftmost formula and the saved one
@@ -37,13 +37,7 @@ pub struct Ended {
     pub argument: usize,
 }
 
-#[derive(Clone, Copy)]
-pub enum Turn {
-    Open(Place),
-    Shut(Ended),
-}
-
-// The first two tests of a state: "G empty, 20; A present, length of G at least l, and leftmost formula equal to A up
+// Whether the state is open still, or how it closes, by the first two tests of a state: "G empty, 20; A present, length of G at least l, and leftmost formula equal to A up
 // to renaming, 21". Goals are numbered by first appearance, so that "up to renaming" is "equal". "The loop test looks at the goal alone."
 pub fn look(
     goal: &[u32],
@@ -53,21 +47,19 @@ pub fn look(
     saved: &[u32],
     kept: usize,
     detector: Detector,
-) -> Turn
+) -> Result<Place, Ended>
     requires { Somewhere goal.now saved.now detector words formulas answer kept }
     ensures { Looked goal.now saved.now detector words formulas answer kept result }
 {
     if formulas == 0 {
-        return close(20, detector, 0, words, formulas, answer);
+        return Err(close(20, detector, 0, words, formulas, answer));
     }
-    let front = extent(&goal[0..words]);
+    let front = extent(&goal[..words]);
     let same = same_front(goal, front, saved, kept);
-    let judged = detector.judge(formulas as u32, same);
-    let detector = judged.detector;
-    let verdict = judged.verdict;
-    match verdict {
-        Verdict::Loop(span) => close(21, detector, span, words, formulas, answer),
-        Verdict::Open => Turn::Open(Place {
+    let Judged { detector, span } = detector.judge(formulas as u32, same);
+    match span {
+        Some(span) => Err(close(21, detector, span, words, formulas, answer)),
+        None => Ok(Place {
             detector,
             words,
             formulas,

@@ -1,8 +1,5 @@
-use Rattle.searching.proofs.Arrives.{come-room, come-somewhere, come-entered}
+use Rattle.searching.proofs.Arrives.{come-somewhere, come-entered}
 use Rattle.searching.proofs.following.arrive.Goals as goal
-
-pub copy_words-requires : goal.copy_words-requires
-copy_words-requires c = come-room _ _ _ _ c.requires
 
 pub look-requires : goal.look-requires
 look-requires c = come-somewhere _ _ _ _ c.requires _ c.copy_words.ensures
