@@ -1,32 +1,17 @@
 -- The search along a chain finds the name, or shows that it is new.
-use Prim.Native.Nat.{ℕ, zero, suc, ◌+◌, ◌-◌, ◌≤◌, ◌<◌}
-use mathlib.Core.Path.{◌≡◌, refl, sym as inv, ap, ap₂, ◌∙◌}
+use Prim.Native.Nat.{ℕ, zero, suc, ◌-◌, ◌≤◌, ◌<◌}
+use mathlib.Core.Path.{◌≡◌, refl, sym as inv, ap, ◌∙◌}
 use mathlib.Core.Bool.{Bool, true, false}
 use mathlib.Core.List.{List, [], ◌∷◌}
 use native.Mathlib.Omega.{arith}
 use native.Mathlib.Decide.{dec_lt}
 use borrow.Author.Tests.{eqb-true, eqb-false}
 use lib.Dec.{eqb}
-use lib.ListN.{length, get_or, drop, length-drop}
-use lib.Seq.{length-take-le}
+use lib.ListN.{length, get_or}
 use Rattle.terms.specs.Cases.{cases}
 use Rattle.grammar.specs.NameLaws.{same_true, same_refl}
 use Rattle.grammar.specs.Names.{same_name, place}
 use Rattle.nametable.specs.Table.{word, hash, latest, Entries, Table}
-
--- Names of different lengths
-
-word-length : (s : List ℕ) (at len : ℕ) → at + len ≤ length s → length (word s at len) ≡ len
-word-length s at len h = length-take-le len (drop at s) (omega (arith, length-drop at s))
-
-pub other_length : (s : List ℕ) (a l at len r : ℕ) → a + l ≤ length s → at + len ≤ length s → r ≡ l → (r ≡ len → ⊥) → false ≡ same_name (word s a l) (word s at len)
-other_length s a l at len r h k e d =
-    cases (same_name (word s a l) (word s at len))
-    (λ t. absurd (d (e ∙ inv (word-length s a l h) ∙ ap length (same_true (word s a l) (word s at len) t) ∙ word-length s at len k)))
-    (λ t. inv t)
-
-pub same_length : (s : List ℕ) (a l at len g r : ℕ) (t : Bool) → t ≡ same_name (word s g len) (word s at len) → g ≡ a → r ≡ l → r ≡ len → t ≡ same_name (word s a l) (word s at len)
-same_length s a l at len g r t e p q k = e ∙ ap₂ (λ (x y : ℕ). same_name (word s x y) (word s at len)) p (inv k ∙ q)
 
 -- The last name of a hash
 

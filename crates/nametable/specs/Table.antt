@@ -1,5 +1,5 @@
 -- A table of names: where each stands first in the text, how long it is, and chains of those with the same hash.
-use Rattle.std.specs.Prelude.{ℕ, zero, suc, ◌+◌, ◌*◌, ◌%◌, ◌≤◌, ◌<◌, ◌≡◌, List, [], ◌∷◌, length, get_or, set, take, drop, eqb, ltb}
+use Rattle.std.specs.Prelude.{ℕ, zero, suc, ◌+◌, ◌*◌, ◌%◌, ◌≤◌, ◌<◌, ◌≡◌, List, [], ◌∷◌, length, get_or, set, take, drop, eqb, ltb, Option, Some, None}
 use Rattle.terms.specs.When.{◌⇒◌∣◌}
 use Rattle.grammar.specs.Names.{place, grow}
 
@@ -43,6 +43,11 @@ pub record Room (starts lens heads nexts : List ℕ) (n : ℕ) : Type 0 where
   pub heads_room : length heads ≡ 4096
   pub nexts_room : n ≤ length nexts
   pub few : n ≤ 32768
+
+-- what is found of a name among n: its place, or nothing where it is new
+abbrev pub IsPlace : Option ℕ → ℕ → ℕ → Type 0
+IsPlace (Some i) place n = (i ≡ place) × (i < n)
+IsPlace None place n = n ≡ place
 
 -- a name put behind n others
 pub record Put (starts starts' lens lens' heads heads' nexts nexts' : List ℕ) (n at len h : ℕ) : Type 0 where

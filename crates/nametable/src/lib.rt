@@ -3,32 +3,25 @@
 
 ghost use Rattle.std.specs.Prelude.{◌≡◌, List, ℕ, ◌+◌, ◌<◌, ◌≤◌, length, get_or};
 ghost use Rattle.grammar.specs.Names.{same_name, place};
-ghost use Rattle.nametable.specs.Table.{word, hash, Table, Room, Put, Numbered};
+ghost use Rattle.nametable.specs.Table.{word, hash, Table, Room, Put, IsPlace, Numbered};
 
 use words::get;
-
-fn wide(x: u8) -> usize
-    ensures { (result ≡ x) × (result < 256) }
-{
-    x as usize
-}
 
 pub fn byte(text: &[u8], at: usize) -> usize
     requires { at < length text.now }
     ensures { (result ≡ get_or text.now at 0) × (result < 256) }
 {
-    wide(text[at])
+    usize::from(text[at])
 }
 
 fn hash(text: &[u8], at: usize, len: usize) -> usize
     requires { at + len ≤ length text.now }
     ensures { (result ≡ hash (word text.now at len)) × (result < 4096) }
 {
+    let name = &text[at..at + len];
     let mut h = 0;
-    let mut i = 0;
-    while i < len {
-        h = (h * 31 + byte(text, at + i)) % 4096;
-        i += 1;
+    for b in name {
+        h = (h * 31 + usize::from(*b)) % 4096;
     }
     h
 }
@@ -38,21 +31,7 @@ pub fn same(text: &[u8], a: usize, b: usize, len: usize) -> bool
     requires { (a + len ≤ length text.now) × (b + len ≤ length text.now) }
     ensures { result ≡ same_name (word text.now a len) (word text.now b len) }
 {
-    let mut i = 0;
-    while i < len {
-        if byte(text, a + i) != byte(text, b + i) {
-            return false;
-        }
-        i += 1;
-    }
-    true
-}
-
-fn length_at(lens: &[u8], i: usize) -> usize
-    requires { i < length lens.now }
-    ensures { (result ≡ get_or lens.now i 0) × (result < 256) }
-{
-    wide(lens[i])
+    text[a..a + len] == text[b..b + len]
 }
 
 // Whether the name number i of the table is the one at a place.
@@ -61,13 +40,12 @@ fn is_name(text: &[u8], starts: &[u16], lens: &[u8], i: usize, at: usize, len: u
     requires i_in_bounds_2 { get_or starts.now i 0 + get_or lens.now i 0 ≤ length text.now }
     ensures { result ≡ same_name (word text.now (get_or starts.now i 0) (get_or lens.now i 0)) (word text.now at len) }
 {
-    if length_at(lens, i) != len {
-        return false;
-    }
-    same(text, get(starts, i), at, len)
+    let start = get(starts, i);
+    let own = byte(lens, i);
+    text[start..start + own] == text[at..at + len]
 }
 
-// The number of the name at a place, or the count of names where it is new.
+// The number of the name at a place, where it is not new.
 fn find(
     text: &[u8],
     starts: &[u16],
@@ -77,21 +55,21 @@ fn find(
     n: usize,
     at: usize,
     len: usize,
-) -> usize
+) -> Option<usize>
     requires by_index { (names : List (List ℕ)) × Table text.now starts.now lens.now heads.now nexts.now names n }
     requires room { Room starts.now lens.now heads.now nexts.now n }
     requires len_in_bounds { at + len ≤ length text.now }
-    ensures { (names : List (List ℕ)) → Table text.now starts.now lens.now heads.now nexts.now names n → result ≡ place (word text.now at len) names }
+    ensures { (names : List (List ℕ)) → Table text.now starts.now lens.now heads.now nexts.now names n → IsPlace result (place (word text.now at len) names) n }
 {
     let mut e = get(heads, hash(text, at, len));
     while 0 < e {
         let i = e - 1;
         if is_name(text, starts, lens, i, at, len) {
-            return i;
+            return Some(i);
         }
         e = get(nexts, i);
     }
-    n
+    None
 }
 
 // Puts a new name behind the others.
@@ -131,11 +109,10 @@ pub fn number(
     requires len_in_bounds { (at + len ≤ length text.now) × (at < 65536) × (len < 256) }
     ensures { (names : List (List ℕ)) → Table text.now starts.old lens.old heads.old nexts.old names n → Numbered text.now starts.new lens.new heads.new nexts.new names n (word text.now at len) result }
 {
-    let r = find(text, starts, lens, heads, nexts, n, at, len);
-    if r < n {
-        return r;
+    if let Some(i) = find(text, starts, lens, heads, nexts, n, at, len) {
+        return i;
     }
     let h = hash(text, at, len);
     add(starts, lens, heads, nexts, n, at, len, h);
-    r
+    n
 }

@@ -5,7 +5,7 @@ use mathlib.Core.List.{List}
 use native.Mathlib.Omega.{arith}
 use lib.ListN.{length, drop}
 use lib.Seq.{length-take-le}
-use Rattle.grammar.specs.Token.{Token, variable, opening, closing, Piece, token}
+use Rattle.grammar.specs.Token.{Token, variable, opening, closing, arrow, stop, Piece, token}
 use Rattle.grammar.specs.Front.{front, broken, unexpected}
 use Rattle.grammar.specs.Syntax.{none, Rule}
 use Rattle.grammar.specs.Names.{variable_number}
@@ -159,3 +159,19 @@ module _ {text : List ℕ} {at depth n v : ℕ} {found : Found} {s s' : State} (
 
   pub closing-sofar : {out out' opens starts lens heads nexts : List ℕ} {b : Draft} → Closed out out' opens b depth → Kept text out opens starts lens heads nexts b s → Sofar text out' opens starts lens heads nexts b s'
   closing-sofar a k = kept-sofar (bracket-kept depth closing-effect x.depth_is x.small a k)
+
+-- a piece that adds nothing
+pub other-stays : {text out opens starts lens heads nexts : List ℕ} {b : Draft} {at depth n v : ℕ} {s s' : State} (found : Found) → ((end : ℕ) → found ≡ F.Variable end → ⊥) → (found ≡ F.Closing → ⊥) → (found ≡ F.Stop → ⊥) →
+    Kept text out opens starts lens heads nexts b s → Step text at depth n v found s s' → Sofar text out opens starts lens heads nexts b s'
+other-stays (F.Name end) q r t k x = token-stays _ _ _ k x refl refl tt
+other-stays (F.Variable end) q r t k x = absurd (q end refl)
+other-stays F.Space q r t k x = gap_stays _ _ _ k x refl refl refl
+other-stays (F.Comment end) q r t k x = gap_stays _ _ _ k x refl refl refl
+other-stays F.Opening q r t k x = opening_never x refl
+other-stays F.Closing q r t k x = absurd (r refl)
+other-stays F.Comma q r t k x = token-stays _ _ _ k x refl refl tt
+other-stays F.Arrow q r t k x = token-stays _ _ _ k x refl refl tt
+other-stays F.Stop q r t k x = absurd (t refl)
+other-stays F.HalfArrow q r t k x = broken_never _ arrow x refl refl
+other-stays F.HalfStop q r t k x = broken_never _ stop x refl refl
+other-stays F.Nothing q r t k x = nothing_never x refl

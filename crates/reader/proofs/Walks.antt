@@ -23,16 +23,15 @@ use Rattle.pieces.specs.declared.Found.TheVariants as F
 use Rattle.stages.specs.declared.Mode as M
 use Rattle.stages.specs.declared.Mode.TheVariants.{Between, Expects, Named, Complete}
 use Rattle.stages.specs.declared.Stage.{Stage}
-use Rattle.stages.specs.declared.Judged.{Judged}
-use Rattle.stages.specs.declared.Judged.TheVariants as J
+use Rattle.std.specs.Prelude.{Result, Ok, Err}
+use Rattle.pieces.specs.declared.Refusal.{Refusal}
+use Rattle.pieces.specs.Refusal.{number}
 use Rattle.stages.specs.Stage.{mode_of, root, Held, Goes, Turned}
 use Rattle.stages.specs.Variables.{Variables}
 use Rattle.stages.proofs.Turning.{judge-settled}
 use Rattle.drafts.specs.declared.Draft.{Draft}
 use Rattle.drafts.specs.Drafted.{bytes_of}
 use Rattle.reader.specs.declared.Turn.{Turn}
-use Rattle.reader.specs.declared.walking.Ended.{Ended}
-use Rattle.reader.specs.declared.walking.Ended.TheVariants.{Refused}
 use Rattle.reader.specs.Effect.{Effect, stays, argues, closes, stops, effect}
 use Rattle.reader.specs.Kept.{tables_of, done_bytes, Numbered, Sofar, Turning, BuiltOn}
 use Rattle.pieces.specs.Found.{end_of}
@@ -151,14 +150,14 @@ module _ {text counts vars out opens starts lens heads nexts : List ℕ} {c : St
       ∙ inv (some_left g.fuel g.now at (drop at text) (omega (arith, length-drop at text, l)) (omega (arith, g.enough)))
       ∙ g.left
 
-  pub bad-ends : (r : Judged) (code place : ℕ) {counts' vars' : List ℕ} → r ≡ J.Bad code place → Turned text counts' vars' g.now at found r → whole text ≡ refused code place
-  bad-ends r code place {counts'} {vars'} e t =
-      let x : Turned text counts' vars' g.now at found (J.Bad code place) = subst (Turned text counts' vars' g.now at found) e t in
+  pub bad-ends : (r : Result Stage Refusal) (k : Refusal) {counts' vars' : List ℕ} → r ≡ Err k → Turned text counts' vars' g.now at found r → whole text ≡ refused (number k.code) k.place
+  bad-ends r k {counts'} {vars'} e t =
+      let x : Turned text counts' vars' g.now at found (Err k) = subst (Turned text counts' vars' g.now at found) e t in
       inv goes_on ∙ x.turns (walk (g.fuel - 1))
 
-  module _ {counts' vars' : List ℕ} {r : Judged} {c' : Stage} (e : r ≡ J.Going c') (t : Turned text counts' vars' g.now at found r) where
+  module _ {counts' vars' : List ℕ} {r : Result Stage Refusal} {c' : Stage} (e : r ≡ Ok c') (t : Turned text counts' vars' g.now at found r) where
     pub goes : Goes text counts' vars' g.now at (front_at text at found) c'
-    goes = let x : Turned text counts' vars' g.now at found (J.Going c') = subst (Turned text counts' vars' g.now at found) e t in x.turns
+    goes = let x : Turned text counts' vars' g.now at found (Ok c') = subst (Turned text counts' vars' g.now at found) e t in x.turns
 
     pub turning : (v : ℕ) → ((counts : List ℕ) (d : Stage) (s : State) → Held text counts vars d s → d.variables ≡ c.variables → Numbered text at found v s) → v < 65536 →
         Turning text at (record { draft = b; stage = c; found = found; v = v }) g.now goes.after
@@ -215,11 +214,11 @@ module _ {text counts vars out opens starts lens heads nexts : List ℕ} {c : St
   ended_with Named e = record { ends_with = at_end ∙ ap (λ (m : Mode). ended g.now.rules m at) e }
   ended_with Complete e = record { ends_with = at_end ∙ ap (λ (m : Mode). ended g.now.rules m at) e }
 
-  pub walk_ends : (r : Ended) → r ≡ ends c.mode b at → Ends text out opens starts lens heads nexts r
+  pub walk_ends : (r : Result Draft Refusal) → r ≡ ends c.mode b at → Ends text out opens starts lens heads nexts r
   walk_ends r q = subst (Ends text out opens starts lens heads nexts) (inv q) (ended_with c.mode g.held.mode_is)
 
-pub bad-walk : (text out opens starts lens heads nexts : List ℕ) (code place : ℕ) → whole text ≡ refused code place → Ends text out opens starts lens heads nexts (Refused code place)
-bad-walk text out opens starts lens heads nexts code place e = record { ends_with = e }
+pub bad-walk : (text out opens starts lens heads nexts : List ℕ) (k : Refusal) → whole text ≡ refused (number k.code) k.place → Ends text out opens starts lens heads nexts (Err k)
+bad-walk text out opens starts lens heads nexts k e = record { ends_with = e }
 
 -- The start
 

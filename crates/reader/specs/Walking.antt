@@ -1,17 +1,18 @@
 -- One pass over a text, piece by piece.
-use Rattle.std.specs.Prelude.{ℕ, suc, ◌-◌, ◌≤◌, ◌<◌, ◌≡◌, List, [], length, drop}
+use Rattle.std.specs.Prelude.{ℕ, suc, ◌-◌, ◌≤◌, ◌<◌, ◌≡◌, List, [], length, drop, Result, Ok, Err}
 use Rattle.grammar.specs.Syntax.{Rule}
 use Rattle.reading.specs.Part.{formulas, between, State, state, start, rules_of}
 use Rattle.reading.specs.Reader as Reader
 use Rattle.reading.proofs.Whole.{Healthy}
 use Rattle.reading.specs.Reader.{Outcome, walk}
+use Rattle.pieces.specs.declared.Code.TheVariants.{Unexpected}
+use Rattle.pieces.specs.declared.Refusal.{Refusal}
+use Rattle.pieces.specs.Refusal.{number, refusal}
 use Rattle.stages.specs.declared.Mode.{Mode}
 use Rattle.stages.specs.declared.Mode.TheVariants.{Between, Expects, Named, Complete}
 use Rattle.stages.specs.declared.Stage.{Stage}
 use Rattle.stages.specs.Stage.{Held}
 use Rattle.drafts.specs.declared.Draft.{Draft}
-use Rattle.reader.specs.declared.walking.Ended.{Ended}
-use Rattle.reader.specs.declared.walking.Ended.TheVariants.{Refused, Read}
 use Rattle.reader.specs.Kept.{Kept, Sofar, Turning}
 use Rattle.reader.specs.declared.Turn.{Turn}
 
@@ -21,11 +22,11 @@ starting = record { mode = Between; at = 0; len = 0; depth = 0; formulas = 0; no
 abbrev pub blank : Draft
 blank = record { from = 2; len = 0; constants = 0; compounds = 0; predicates = 0 }
 
-abbrev pub ends : Mode → Draft → ℕ → Ended
-ends Between b at = Read b
-ends Expects b at = Refused 41 at
-ends Named b at = Refused 41 at
-ends Complete b at = Refused 41 at
+abbrev pub ends : Mode → Draft → ℕ → Result Draft Refusal
+ends Between b at = Ok b
+ends Expects b at = Err (refusal Unexpected at)
+ends Named b at = Err (refusal Unexpected at)
+ends Complete b at = Err (refusal Unexpected at)
 
 -- storage in which nothing is held yet
 pub record Empty (text out opens starts lens heads nexts : List ℕ) : Type 0 where
@@ -40,11 +41,11 @@ pub record Rules (text out opens starts lens heads nexts : List ℕ) (b : Draft)
   pub reads : whole text ≡ Reader.read (rules_of rules [])
   pub sofar : Sofar text out opens starts lens heads nexts b (state rules (formulas []) between)
 
-abbrev pub EndsWith : List ℕ → List ℕ → List ℕ → List ℕ → List ℕ → List ℕ → List ℕ → Ended → Type 0
-EndsWith text out opens starts lens heads nexts (Refused code place) = whole text ≡ Reader.refused code place
-EndsWith text out opens starts lens heads nexts (Read b) = Rules text out opens starts lens heads nexts b
+abbrev pub EndsWith : List ℕ → List ℕ → List ℕ → List ℕ → List ℕ → List ℕ → List ℕ → Result Draft Refusal → Type 0
+EndsWith text out opens starts lens heads nexts (Err r) = whole text ≡ Reader.refused (number r.code) r.place
+EndsWith text out opens starts lens heads nexts (Ok b) = Rules text out opens starts lens heads nexts b
 
-pub record Ends (text out opens starts lens heads nexts : List ℕ) (r : Ended) : Type 0 where
+pub record Ends (text out opens starts lens heads nexts : List ℕ) (r : Result Draft Refusal) : Type 0 where
   pub ends_with : EndsWith text out opens starts lens heads nexts r
 
 -- a piece, while the book can still be of 32,768 bytes or is already longer

@@ -20,9 +20,7 @@ fn ended(b: Draft) -> Draft
     Draft {
         from: b.from + b.len + 2,
         len: 0,
-        constants: b.constants,
-        compounds: b.compounds,
-        predicates: b.predicates,
+        ..b
     }
 }
 
@@ -40,24 +38,16 @@ fn add(
     ensures { Stepped out.old out.new opens.now b depth formulas v found result }
 {
     match found {
-        Found::Name(_) => b,
         Found::Variable(_) => argument(out, opens, b, depth, v),
-        Found::Space => b,
-        Found::Comment(_) => b,
-        Found::Opening => b,
         Found::Closing => {
             close(out, opens, b, depth);
             b
         }
-        Found::Comma => b,
-        Found::Arrow => b,
         Found::Stop => {
             finish(out, b.from, formulas);
             ended(b)
         }
-        Found::HalfArrow => b,
-        Found::HalfStop => b,
-        Found::Nothing => b,
+        _ => b,
     }
 }
 
@@ -74,12 +64,7 @@ pub struct Turn {
 fn waits(m: Mode) -> bool
     ensures { result ≡ waits m }
 {
-    match m {
-        Mode::Between => false,
-        Mode::Expects => false,
-        Mode::Named => true,
-        Mode::Complete => false,
-    }
+    matches!(m, Mode::Named)
 }
 
 // How many formulas there are behind a name that stands alone.
@@ -107,27 +92,26 @@ pub fn build(
     requires { Turns text.now out.old opens.old starts.old lens.old heads.old nexts.old w }
     ensures { BuiltOn text.now out.old out.new opens.old opens.new starts.old lens.old heads.old nexts.old starts.new lens.new heads.new nexts.new w result }
 {
-    let b = w.draft;
-    let c = w.stage;
-    let found = w.found;
-    let m = c.mode;
+    let Turn {
+        draft: b,
+        stage: c,
+        found,
+        v,
+    } = w;
     let depth = c.depth;
-    let formulas = c.formulas;
-    if !waits(m) {
-        return add(out, opens, b, depth, formulas, found, w.v);
+    if !waits(c.mode) {
+        return add(out, opens, b, depth, c.formulas, found, v);
     }
-    let at = c.at;
-    let len = c.len;
     let work = Work {
         draft: b,
         depth,
-        at,
-        len,
+        at: c.at,
+        len: c.len,
     };
     if is_opening(found) {
         return open(text, starts, lens, heads, nexts, out, opens, work);
     }
     let d = alone(text, starts, lens, heads, nexts, out, opens, work);
-    let more = then(depth, formulas);
-    add(out, opens, d, depth, more, found, w.v)
+    let more = then(depth, c.formulas);
+    add(out, opens, d, depth, more, found, v)
 }

@@ -8,16 +8,9 @@ ghost use Rattle.reader.specs.Walking.{starting, blank, ends, Empty, Ends, Grows
 
 use crate::{Turn, build};
 use drafts::Draft;
-use pieces::{Found, end_of, piece_at};
+use pieces::{Found, Refusal, end_of, piece_at, unexpected};
 use stages::variables::number;
-use stages::{Judged, Mode, Stage, turn};
-
-// A refusal, with its place; or all rules are read.
-#[derive(Clone, Copy)]
-pub enum Ended {
-    Refused(usize, usize),
-    Read(Draft),
-}
+use stages::{Mode, Stage, turn};
 
 // The number of the variable at a place, if there is one.
 fn number_of(text: &[u8], vars: &[u16], n: usize, at: usize, found: Found) -> usize
@@ -25,18 +18,8 @@ fn number_of(text: &[u8], vars: &[u16], n: usize, at: usize, found: Found) -> us
     ensures { ((counts : List ℕ) (c : Stage) (s : State) → Held text.now counts vars.now c s → c.variables ≡ n → Numbered text.now at found result s) × (result < 65536) }
 {
     match found {
-        Found::Name(_) => 0,
         Found::Variable(end) => number(text, vars, n, at, end - at),
-        Found::Space => 0,
-        Found::Comment(_) => 0,
-        Found::Opening => 0,
-        Found::Closing => 0,
-        Found::Comma => 0,
-        Found::Arrow => 0,
-        Found::Stop => 0,
-        Found::HalfArrow => 0,
-        Found::HalfStop => 0,
-        Found::Nothing => 0,
+        _ => 0,
     }
 }
 
@@ -67,16 +50,13 @@ fn first() -> Draft
     }
 }
 
-// The end of the text.
-fn end(c: Stage, b: Draft, at: usize) -> Ended
+// The end of the text: all rules are read, or the last one is not at its end.
+fn end(c: Stage, b: Draft, at: usize) -> Result<Draft, Refusal>
     ensures { result ≡ ends c.mode b at }
 {
-    let m = c.mode;
-    match m {
-        Mode::Between => Ended::Read(b),
-        Mode::Expects => Ended::Refused(41, at),
-        Mode::Named => Ended::Refused(41, at),
-        Mode::Complete => Ended::Refused(41, at),
+    match c.mode {
+        Mode::Between => Ok(b),
+        _ => Err(unexpected(at)),
     }
 }
 
@@ -110,7 +90,7 @@ pub fn walk(
     nexts: &mut [u16],
     out: &mut [u8],
     opens: &mut [u16],
-) -> Ended
+) -> Result<Draft, Refusal>
     requires { (length text.now ≤ 65536) × Empty text.now out.old opens.old starts.old lens.old heads.old nexts.old }
     ensures { Ends text.now out.new opens.new starts.new lens.new heads.new nexts.new result }
 {
@@ -122,30 +102,24 @@ pub fn walk(
     while at < text.len() {
         let found = piece_at(text, at);
         let v = number_of(text, &vars, c.variables, at, found);
-        match turn(text, &mut counts, &mut vars, c, at, found) {
-            Judged::Going(next) => {
-                b = grow(
-                    text,
-                    starts,
-                    lens,
-                    heads,
-                    nexts,
-                    out,
-                    opens,
-                    Turn {
-                        draft: b,
-                        stage: c,
-                        found,
-                        v,
-                    },
-                );
-                c = next;
-                at = end_of(found, at);
-            }
-            Judged::Bad(code, place) => {
-                return Ended::Refused(code, place);
-            }
-        }
+        let next = turn(text, &mut counts, &mut vars, c, at, found)?;
+        b = grow(
+            text,
+            starts,
+            lens,
+            heads,
+            nexts,
+            out,
+            opens,
+            Turn {
+                draft: b,
+                stage: c,
+                found,
+                v,
+            },
+        );
+        c = next;
+        at = end_of(found, at);
     }
     end(c, b, at)
 }

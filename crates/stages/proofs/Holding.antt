@@ -17,8 +17,12 @@ use Rattle.nametable.specs.Table.{word}
 use Rattle.stages.specs.declared.Mode as M
 use Rattle.stages.specs.declared.Mode.TheVariants.{Between, Expects, Named, Complete}
 use Rattle.stages.specs.declared.Stage.{Stage}
-use Rattle.stages.specs.declared.Judged.TheVariants.{Going}
-use Rattle.stages.specs.Stage.{mode_of, is_complete, Settled, Deep, root, level, root_count, raised, grown, Held, with_argument, code, After}
+use Rattle.std.specs.Prelude.{Option, Some, None, Ok}
+use Rattle.pieces.specs.declared.Code.{Code}
+use Rattle.pieces.specs.declared.Code.TheVariants.{Range, Size, QueryRange, QuerySize, Unexpected, LongName}
+use Rattle.pieces.specs.declared.Refusal.{Refusal}
+use Rattle.pieces.specs.Refusal.{number, refusal}
+use Rattle.stages.specs.Stage.{mode_of, is_complete, Settled, Deep, root, level, root_count, raised, grown, Held, with_argument, code, limit_number, After}
 use Rattle.stages.specs.Variables.{Variables}
 use Rattle.stages.proofs.Depths.{depth-nodes, top-is, below-is, put-deep, put_count}
 
@@ -86,6 +90,25 @@ code-rules {c = c} {s} h e l r = rw (e, lt-leb 256 (nodes s.part) (omega (arith,
 
 pub code-none : {text counts vars : List ℕ} {c : Stage} {s : State} → Held text counts vars c s → full s.part ≡ false → c.nodes < 256 → c.rules < 512 → 0 ≡ code s
 code-none {c = c} {s} h e l r = rw (e, lt-leb 256 (nodes s.part) (omega (arith, h.nodes_are)), lt-leb 512 (length s.rules) (omega (arith, h.rules_are))) refl
+
+-- a code that is given is none but its number
+pub limit-some : {r : Option Code} {k : Code} {n : ℕ} → r ≡ Some k → limit_number r ≡ n → number k ≡ n
+limit-some e q = ap limit_number (inv e) ∙ q
+
+pub limit_none : {r : Option Code} {n : ℕ} → r ≡ None → limit_number r ≡ n → 0 ≡ n
+limit_none e q = ap limit_number (inv e) ∙ q
+
+pub number-some : (k : Code) → number k ≡ 0 → ⊥
+number-some Range e = omega arith
+number-some Size e = omega arith
+number-some QueryRange e = omega arith
+number-some QuerySize e = omega arith
+number-some Unexpected e = omega arith
+number-some LongName e = omega arith
+
+-- a refusal of an unexpected byte
+pub unexpected-at : {j : Judged} {at : ℕ} {r : Refusal} → r ≡ refusal Unexpected at → j ≡ bad 41 at → j ≡ bad (number r.code) r.place
+unexpected-at e q = rw e q
 
 -- Modes
 
@@ -173,9 +196,9 @@ settle-alone {counts} {counts'} c r e q n = (
 
 -- A stage that the program made
 
-pub moved : {text counts counts' vars : List ℕ} {j : Judged} {c r : Stage} → r ≡ c → counts' ≡ counts → After text counts vars j (Going c) → After text counts' vars j (Going r)
+pub moved : {text counts counts' vars : List ℕ} {j : Judged} {c r : Stage} → r ≡ c → counts' ≡ counts → After text counts vars j (Ok c) → After text counts' vars j (Ok r)
 moved {text} {counts} {counts'} {vars} {j} {c} {r} e q a =
-    subst (λ (x : Stage). After text counts' vars j (Going x)) (inv e) (subst (λ (l : List ℕ). After text l vars j (Going c)) (inv q) a)
+    subst (λ (x : Stage). After text counts' vars j (Ok x)) (inv e) (subst (λ (l : List ℕ). After text l vars j (Ok c)) (inv q) a)
 
 pub named-depth : {text counts vars : List ℕ} (c : Stage) {s : State} → Held text counts vars c s → c.mode ≡ Named → c.depth < 256
 named-depth c {s} h e = omega (arith, depth-nodes s.part c.depth h.deep, named-nodes c h e, h.nodes_are)

@@ -8,10 +8,12 @@ use native.Mathlib.Decide.{dec_lt}
 use lib.ListN.{length, get_or, set, drop, length-append, length-set, length-drop}
 use lib.Dec.{eqb}
 use lib.Seq.{get_or-set_same, get_or-set_other, length-take-le}
+use Rattle.std.specs.Prelude.{Option, Some, None}
+use Rattle.std.specs.Option.{unwrap_or}
 use Rattle.terms.specs.Cases.{cases}
 use Rattle.grammar.specs.Names.{same_name, place, within, lone, variable_number, with_variable}
 use Rattle.grammar.specs.NameLaws.{same_true, place-within, place-outside}
-use Rattle.nametable.specs.Table.{word}
+use Rattle.nametable.specs.Table.{word, IsPlace}
 use Rattle.stages.specs.Variables.{Variables}
 
 -- The first that is the same
@@ -118,6 +120,11 @@ found-more w names i f t j l = elim (dec_lt j i) [ yes h ↦ f j h | no h ↦ le
 
 pub number-lone : (names : List (List ℕ)) (w : List ℕ) (n : ℕ) → length names ≡ n → lone w ≡ true → n ≡ variable_number names w
 number-lone names w n e t = rw t (inv e)
+
+-- what is found, or the count where it is new
+pub unwrapped : {r : ℕ} (f : Option ℕ) (place n : ℕ) → r ≡ unwrap_or f n → IsPlace f place n → r ≡ place
+unwrapped (Some i) place n e p = e ∙ p.0
+unwrapped None place n e p = e ∙ p
 
 pub number-found : (names : List (List ℕ)) (w : List ℕ) (r : ℕ) → r ≡ place w names → lone w ≡ false → r ≡ variable_number names w
 number-found names w r e t = rw t e

@@ -14,7 +14,7 @@ use Rattle.reading.specs.SizeLaws.{put-nodes, put-variables, done-nodes-of, done
 use Rattle.stages.specs.declared.Mode as M
 use Rattle.stages.specs.declared.Mode.TheVariants.{Between, Expects, Named, Complete}
 use Rattle.stages.specs.declared.Stage.{Stage}
-use Rattle.stages.specs.declared.Judged.TheVariants.{Going}
+use Rattle.std.specs.Prelude.{Ok}
 use Rattle.stages.specs.Stage.{mode_of, is_complete, Settled, Deep, root, level, root_count, raised, Held, expecting, finished, closed_to, opened, After}
 use Rattle.stages.specs.Variables.{Variables}
 use Rattle.stages.proofs.Depths.{top-is, below-is, put-deep, put_count, opened-deep}
@@ -48,7 +48,7 @@ pub closing-empty : {text counts vars : List ℕ} (c : Stage) {s : State} (at : 
 closing-empty c {s} at h i z = judge-complete c at closing h i ∙ empty-bracket s.rules s.part c.depth at h.deep z
 
 closing-part : {text counts vars : List ℕ} (c : Stage) (cs : List Rule) (p : Part) (m : Mode) (at : ℕ) → Held text counts vars c (state cs p m) → is_complete c.mode ≡ true → (c.depth ≡ 0 → ⊥) →
-    (get_or counts (c.depth - 1) 0 ≡ 0 → ⊥) → After text (raised (c.depth - 1) counts) vars (judge_token (state cs p m) at closing) (Going (closed_to c (c.depth - 1)))
+    (get_or counts (c.depth - 1) 0 ≡ 0 → ⊥) → After text (raised (c.depth - 1) counts) vars (judge_token (state cs p m) at closing) (Ok (closed_to c (c.depth - 1)))
 closing-part c cs (formulas fs) m at h i z n = absurd (rooted-zero c.depth h.deep z)
   where
     rooted-zero : {counts : List ℕ} {fs : List Formula} (k : ℕ) → Deep counts (formulas fs) k → (k ≡ 0 → ⊥) → ⊥
@@ -77,7 +77,7 @@ closing-part {text} {counts} {vars} c cs (inside p v d) m at h i z n =
     )
 
 pub closing-goes : {text counts vars : List ℕ} (c : Stage) {s : State} (at : ℕ) → Held text counts vars c s → is_complete c.mode ≡ true → (c.depth ≡ 0 → ⊥) →
-    (get_or counts (c.depth - 1) 0 ≡ 0 → ⊥) → After text (raised (c.depth - 1) counts) vars (judge_token s at closing) (Going (closed_to c (c.depth - 1)))
+    (get_or counts (c.depth - 1) 0 ≡ 0 → ⊥) → After text (raised (c.depth - 1) counts) vars (judge_token s at closing) (Ok (closed_to c (c.depth - 1)))
 closing-goes c {s} at h i z n = closing-part c s.rules s.part s.mode at h i z n
 
 -- A comma, and `:-`
@@ -86,7 +86,7 @@ pub sign-refused : {text counts vars : List ℕ} (c : Stage) {s : State} (at : �
 sign-refused c {s} at h i f = judge-complete c at comma h i ∙ ap (λ (b : Bool). judge_taken (b ⇒ taken (state s.rules s.part expects) ∣ wrong) 0 false at) f
 
 held-expecting : {text counts vars : List ℕ} (c : Stage) {s : State} (at : ℕ) (t : Token) → Held text counts vars c s → judge_token s at t ≡ going (state s.rules s.part expects) →
-    After text counts vars (judge_token s at t) (Going (expecting c))
+    After text counts vars (judge_token s at t) (Ok (expecting c))
 held-expecting c {s} at t h e = (
   state s.rules s.part expects,
   e,
@@ -104,7 +104,7 @@ held-expecting c {s} at t h e = (
   },
 )
 
-pub comma-goes : {text counts vars : List ℕ} (c : Stage) {s : State} (at : ℕ) → Held text counts vars c s → is_complete c.mode ≡ true → comma_may s.part ≡ true → After text counts vars (judge_token s at comma) (Going (expecting c))
+pub comma-goes : {text counts vars : List ℕ} (c : Stage) {s : State} (at : ℕ) → Held text counts vars c s → is_complete c.mode ≡ true → comma_may s.part ≡ true → After text counts vars (judge_token s at comma) (Ok (expecting c))
 comma-goes c {s} at h i f =
     held-expecting c at comma h (judge-complete c at comma h i ∙ ap (λ (b : Bool). judge_taken (b ⇒ taken (state s.rules s.part expects) ∣ wrong) 0 false at) f)
 
@@ -134,7 +134,7 @@ pub arrow-later : {text counts vars : List ℕ} (c : Stage) {s : State} (at : �
 arrow-later c {s} at h i z x = arrow-refused c at h i (arrow-others s.part c.depth c.formulas h.deep h.formulas_are z x)
 
 pub arrow-goes : {text counts vars : List ℕ} (c : Stage) {s : State} (at : ℕ) → Held text counts vars c s → is_complete c.mode ≡ true → c.depth ≡ 0 → c.formulas ≡ 1 →
-    After text counts vars (judge_token s at arrow) (Going (expecting c))
+    After text counts vars (judge_token s at arrow) (Ok (expecting c))
 arrow-goes c {s} at h i z x =
     held-expecting c at arrow h
     (judge-complete c at arrow h i
@@ -161,7 +161,7 @@ no-variables : (text vars : List ℕ) → Variables text vars [] 0
 no-variables text vars = record { count = refl; few = omega arith; inside = λ i (l : i < 0). absurd (omega arith); named = λ i (l : i < 0). absurd (omega arith) }
 
 stop-part : {text counts vars : List ℕ} (c : Stage) (cs : List Rule) (p : Part) (m : Mode) (at : ℕ) → Held text counts vars c (state cs p m) → is_complete c.mode ≡ true → c.depth ≡ 0 →
-    (c.formulas ≡ 0 → ⊥) → After text counts vars (judge_token (state cs p m) at stop) (Going (finished c))
+    (c.formulas ≡ 0 → ⊥) → After text counts vars (judge_token (state cs p m) at stop) (Ok (finished c))
 stop-part c cs (formulas []) m at h i z x = absurd (x h.formulas_are)
 stop-part c cs (inside p v d) m at h i z x = absurd (inside-deep c.depth h.deep z)
   where
@@ -187,7 +187,7 @@ stop-part {text} {counts} {vars} c cs (formulas (f ∷ fs)) m at h i z x =
     )
 
 pub stop_goes : {text counts vars : List ℕ} (c : Stage) {s : State} (at : ℕ) → Held text counts vars c s → is_complete c.mode ≡ true → c.depth ≡ 0 → (c.formulas ≡ 0 → ⊥) →
-    After text counts vars (judge_token s at stop) (Going (finished c))
+    After text counts vars (judge_token s at stop) (Ok (finished c))
 stop_goes c {s} at h i z x = stop-part c s.rules s.part s.mode at h i z x
 
 -- An opening bracket
@@ -196,7 +196,7 @@ opening-judged : (cs : List Rule) (p : Part) (m : Mode) (w : List ℕ) (at : ℕ
 opening-judged cs p m w at e = ap (λ (x : Mode). judge_taken (next cs p x opening) 0 false at) e
 
 pub opening-goes : {text counts vars : List ℕ} (c : Stage) {s : State} (at : ℕ) → Held text counts vars c s → c.mode ≡ Named → c.depth < 256 →
-    After text (set counts c.depth 0) vars (judge_token s at opening) (Going (opened c))
+    After text (set counts c.depth 0) vars (judge_token s at opening) (Ok (opened c))
 opening-goes {text} {counts} c {s} at h e l =
     let w = word text c.at c.len in
     let after = state s.rules (inside s.part w none_yet) expects in

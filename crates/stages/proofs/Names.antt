@@ -18,7 +18,7 @@ use Rattle.reading.proofs.LimitLaws.{name-passes}
 use Rattle.stages.specs.declared.Mode as M
 use Rattle.stages.specs.declared.Mode.TheVariants.{Between, Expects, Named, Complete}
 use Rattle.stages.specs.declared.Stage.{Stage}
-use Rattle.stages.specs.declared.Judged.TheVariants.{Going}
+use Rattle.std.specs.Prelude.{Ok}
 use Rattle.stages.specs.Stage as Stage
 use Rattle.stages.specs.Stage.{mode_of, awaits, Settled, Deep, root, level, root_count, raised, Held, with_argument, in_brackets, code, After}
 use Rattle.stages.specs.Variables.{Variables}
@@ -72,7 +72,7 @@ name-long {text} c {s} at r len h i e z l k =
     name-taken c at w h i ∙ sized-long (code s) (leb 33 (length w)) at (state s.rules s.part (named w)) (inv e ∙ z) (le-leb 33 (length w) (omega (arith, word-long text at len l)))
 
 pub name-goes : {text counts vars : List ℕ} (c : Stage) {s : State} (at r len : ℕ) → Held text counts vars c s → awaits c.mode ≡ true → r ≡ code s → r ≡ 0 → at + len ≤ length text → at < 65536 → len < 33 →
-    After text counts vars (judge_token s at (name (word text at len))) (Going (Stage.named c at len))
+    After text counts vars (judge_token s at (name (word text at len))) (Ok (Stage.named c at len))
 name-goes {text} c {s} at r len h i e z l low k =
     let w = word text at len in
     let after = state s.rules s.part (named w) in
@@ -174,7 +174,7 @@ few-variables seen w v l q k = few (numbers seen w)
 
 variable-part : {text counts vars : List ℕ} (c : Stage) (cs : List Rule) (p : Part) (m : Mode) (at r n : ℕ) (w vars' : List ℕ) → Held text counts vars c (state cs p m) →
     Stage.expects c.mode c.depth ≡ true → r ≡ code (state cs p m) → r ≡ 0 → length (with_variable (variables p) w) ≤ 64 → Variables text vars' (with_variable (variables p) w) n → length vars' ≡ 128 →
-    After text (raised c.depth counts) vars' (judge_token (state cs p m) at (variable w)) (Going (with_argument c n))
+    After text (raised c.depth counts) vars' (judge_token (state cs p m) at (variable w)) (Ok (with_argument c n))
 variable-part {counts = counts} c cs (formulas fs) m at r n w vars' h i e z l y k = absurd (rooted-zero c.depth h.deep (bracketed c.mode c.depth i))
   where
     rooted-zero : {counts : List ℕ} {fs : List Formula} (k : ℕ) → Deep counts (formulas fs) k → (k ≡ 0 → ⊥) → ⊥
@@ -204,7 +204,7 @@ variable-part {text} {counts} {vars} c cs (inside p v d) m at r n w vars' h i e 
 
 pub variable-goes : {text counts vars : List ℕ} (c : Stage) {s : State} (at r v n : ℕ) (w vars' : List ℕ) → Held text counts vars c s → Stage.expects c.mode c.depth ≡ true → r ≡ code s → r ≡ 0 →
     v ≡ variable_number (variables s.part) w → v < 64 → Variables text vars' (with_variable (variables s.part) w) n → length vars' ≡ 128 →
-    After text (raised c.depth counts) vars' (judge_token s at (variable w)) (Going (with_argument c n))
+    After text (raised c.depth counts) vars' (judge_token s at (variable w)) (Ok (with_argument c n))
 variable-goes c {s} at r v n w vars' h i e z q b y k =
     variable-part c s.rules s.part s.mode at r n w vars' h i e z (few-variables (variables s.part) w v h.small.named q b) y k
 

@@ -17,35 +17,37 @@ use Rattle.pieces.specs.Found.{Inside, Shows, front_at}
 use Rattle.pieces.specs.declared.Found.{Found}
 use Rattle.pieces.specs.declared.Found.TheVariants as F
 use Rattle.stages.specs.declared.Stage.{Stage}
-use Rattle.stages.specs.declared.Judged.{Judged}
-use Rattle.stages.specs.declared.Judged.TheVariants.{Going, Bad}
+use Rattle.std.specs.Prelude.{Result, Ok, Err}
+use Rattle.pieces.specs.declared.Code.TheVariants.{Unexpected}
+use Rattle.pieces.specs.declared.Refusal.{Refusal}
+use Rattle.pieces.specs.Refusal.{number, refusal}
 use Rattle.stages.specs.Stage.{Settled, Held, halved, After, is_opening_found, Turned}
 use Rattle.stages.proofs.Holding.{held-settled}
 
 -- A token
 
-pub token-turned : (text counts vars : List ℕ) (s : State) (at : ℕ) (found : Found) (t : Token) (rest : List ℕ) (r : Judged) → front_at text at found ≡ front (token t) rest →
+pub token-turned : (text counts vars : List ℕ) (s : State) (at : ℕ) (found : Found) (t : Token) (rest : List ℕ) (r : Result Stage Refusal) → front_at text at found ≡ front (token t) rest →
     After text counts vars (judge_token s at t) r → Turned text counts vars s at found r
-token-turned text counts vars s at found t rest (Going c) e a = record { turns = record { piece = token t; rest = rest; shown = e; after = a.0; judged = a.1; held = a.2 } }
-token-turned text counts vars s at found t rest (Bad code place) e a =
+token-turned text counts vars s at found t rest (Ok c) e a = record { turns = record { piece = token t; rest = rest; shown = e; after = a.0; judged = a.1; held = a.2 } }
+token-turned text counts vars s at found t rest (Err k) e a =
     record { turns = λ more. ap (λ (f : Front.Front). from_front s at f more) e ∙ ap (λ (j : Reader.Judged). go_on j (λ n. more n (at + length (spelt (token t))) rest)) a }
 
 -- A blank, or a comment
 
 pub gap_turned : {text counts vars : List ℕ} (c : Stage) (s : State) (at : ℕ) (found : Found) (p : Piece) (rest : List ℕ) → front_at text at found ≡ front p rest → judge s at p ≡ going (settle s) →
-    Held text counts vars c s → Settled c.mode → Turned text counts vars s at found (Going c)
+    Held text counts vars c s → Settled c.mode → Turned text counts vars s at found (Ok c)
 gap_turned {text} {counts} {vars} c s at found p rest e j h z =
     record { turns = record { piece = p; rest = rest; shown = e; after = settle s; judged = j; held = subst (Held text counts vars c) (inv (held-settled c h z)) h } }
 
 -- Half a token
 
-broken-off : (text counts vars : List ℕ) (n : Taken) (at : ℕ) (j : Judged) → After text counts vars (judge_taken n 0 false at) j → (code place : ℕ) → halved j at ≡ Bad code place → breaks n at ≡ refused code place
-broken-off text counts vars (taken s) at (Going c) a code place e = let q : 41 ≡ code = cc in let r : at + 1 ≡ place = cc in rw (q, r) refl
-broken-off text counts vars (taken s) at (Bad k i) a code place e = let z : ◌≡◌ {A = ℕ} 0 1 = cc in absurd (omega arith)
-broken-off text counts vars wrong at (Going c) a code place e = let h = a.1 in let z : ◌≡◌ {A = ℕ} 0 1 = cc in absurd (omega arith)
-broken-off text counts vars wrong at (Bad k i) a code place e = let q : 41 ≡ code = cc in let r : at ≡ place = cc in rw (q, r) refl
+broken-off : (text counts vars : List ℕ) (n : Taken) (at : ℕ) (j : Result Stage Refusal) → After text counts vars (judge_taken n 0 false at) j → (r : Refusal) → halved j at ≡ Err r → breaks n at ≡ refused (number r.code) r.place
+broken-off text counts vars (taken s) at (Ok c) a r e = let q : refusal Unexpected (at + 1) ≡ r = cc in subst (λ (x : Refusal). breaks (taken s) at ≡ refused (number x.code) x.place) q refl
+broken-off text counts vars (taken s) at (Err k) a r e = let z : ◌≡◌ {A = ℕ} 0 1 = cc in absurd (omega arith)
+broken-off text counts vars wrong at (Ok c) a r e = let h = a.1 in let z : ◌≡◌ {A = ℕ} 0 1 = cc in absurd (omega arith)
+broken-off text counts vars wrong at (Err k) a r e = let q : refusal Unexpected at ≡ r = cc in subst (λ (x : Refusal). breaks wrong at ≡ refused (number x.code) x.place) q refl
 
-pub half-turned : (text counts vars : List ℕ) (s : State) (at : ℕ) (found : Found) (t : Token) (j r : Judged) → front_at text at found ≡ broken t → limit s.rules s.part t ≡ 0 → long t ≡ false →
+pub half-turned : (text counts vars : List ℕ) (s : State) (at : ℕ) (found : Found) (t : Token) (j r : Result Stage Refusal) → front_at text at found ≡ broken t → limit s.rules s.part t ≡ 0 → long t ≡ false →
     After text counts vars (judge_token s at t) j → r ≡ halved j at → Turned text counts vars s at found r
 half-turned text counts vars s at found t j r e l k a q = subst (Turned text counts vars s at found) (inv q) (there (halved j at) refl)
   where
@@ -55,13 +57,13 @@ half-turned text counts vars s at found t j r e l k a q = subst (Turned text cou
     b : After text counts vars (judge_taken n 0 false at) j
     b = subst (λ (x : Bool). After text counts vars (judge_taken n 0 x at) j) k (subst (λ (x : ℕ). After text counts vars (judge_taken n x (long t) at) j) l a)
 
-    there : (x : Judged) → halved j at ≡ x → Turned text counts vars s at found x
-    there (Going c) f = absurd (never j f)
+    there : (x : Result Stage Refusal) → halved j at ≡ x → Turned text counts vars s at found x
+    there (Ok c) f = absurd (never j f)
       where
-        never : (j : Judged) → halved j at ≡ Going c → ⊥
-        never (Going d) f = let z : ◌≡◌ {A = ℕ} 0 1 = cc in omega arith
-        never (Bad code place) f = let z : ◌≡◌ {A = ℕ} 0 1 = cc in omega arith
-    there (Bad code place) f = record { turns = λ more. ap (λ (x : Front.Front). from_front s at x more) e ∙ broken-off text counts vars n at j b code place f }
+        never : (j : Result Stage Refusal) → halved j at ≡ Ok c → ⊥
+        never (Ok d) f = let z : ◌≡◌ {A = ℕ} 0 1 = cc in omega arith
+        never (Err k) f = let z : ◌≡◌ {A = ℕ} 0 1 = cc in omega arith
+    there (Err k) f = record { turns = λ more. ap (λ (x : Front.Front). from_front s at x more) e ∙ broken-off text counts vars n at j b k f }
 
 -- Before a piece that is no bracket a name stands alone
 
@@ -117,12 +119,12 @@ front-settled s at (front p rest) more h = ap (λ (j : Reader.Judged). go_on j (
 front-settled s at (broken t) more h = ap (λ (n : Taken). breaks n at) (inv (next-settled s.rules s.part s.mode t h))
 front-settled s at unexpected more h = refl
 
-pub unsettled : (text counts vars : List ℕ) (s : State) (at : ℕ) (found : Found) (r : Judged) → is_opening_found found ≡ false → Turned text counts vars (settle s) at found r → Turned text counts vars s at found r
-unsettled text counts vars s at found (Going c) i x =
+pub unsettled : (text counts vars : List ℕ) (s : State) (at : ℕ) (found : Found) (r : Result Stage Refusal) → is_opening_found found ≡ false → Turned text counts vars (settle s) at found r → Turned text counts vars s at found r
+unsettled text counts vars s at found (Ok c) i x =
     let g = x.turns in
     let o : opening_piece g.piece ≡ false = ap opening_front (inv g.shown) ∙ front-opening text at found ∙ i in
     record { turns = record { piece = g.piece; rest = g.rest; shown = g.shown; after = g.after; judged = inv (judge-settled s at g.piece o) ∙ g.judged; held = g.held } }
-unsettled text counts vars s at found (Bad code place) i x =
+unsettled text counts vars s at found (Err k) i x =
     record { turns = λ more. front-settled s at (front_at text at found) more (front-opening text at found ∙ i) ∙ x.turns more }
 
 -- An opening bracket
@@ -148,8 +150,8 @@ inside-at {text} {at} s e = subst (Inside text at) e s.inside
 
 -- A byte that begins nothing
 
-pub nothing-turned : (text counts vars : List ℕ) (s : State) (at : ℕ) (found : Found) → front_at text at found ≡ unexpected → Turned text counts vars s at found (Bad 41 at)
-nothing-turned text counts vars s at found e = record { turns = λ more. ap (λ (f : Front.Front). from_front s at f more) e }
+pub nothing-turned : (text counts vars : List ℕ) (s : State) (at : ℕ) (found : Found) (r : Refusal) → r ≡ refusal Unexpected at → front_at text at found ≡ unexpected → Turned text counts vars s at found (Err r)
+nothing-turned text counts vars s at found r q e = subst (λ (x : Refusal). Turned text counts vars s at found (Err x)) (inv q) (record { turns = λ more. ap (λ (f : Front.Front). from_front s at f more) e })
 
 pub span-inside : (at end n : ℕ) → at < end → end ≤ n → at + (end - at) ≤ n
 span-inside at end n l k = omega (arith, l, k)

@@ -1,5 +1,5 @@
 -- A state of the reader (crate `reading`) in numbers.
-use Rattle.std.specs.Prelude.{ℕ, zero, suc, ◌+◌, ◌≤◌, ◌<◌, ◌≡◌, Bool, true, false, List, length, get_or, set}
+use Rattle.std.specs.Prelude.{ℕ, zero, suc, ◌+◌, ◌≤◌, ◌<◌, ◌≡◌, Bool, true, false, List, length, get_or, set, Option, Some, None, Result, Ok, Err}
 use Rattle.terms.specs.When.{◌⇒◌∣◌}
 use Rattle.grammar.specs.Token.{Piece}
 use Rattle.grammar.specs.Front as Front
@@ -12,12 +12,14 @@ use Rattle.reading.specs.Limits.{SmallState}
 use Rattle.pieces.specs.Found.{front_at}
 use Rattle.pieces.specs.declared.Found.{Found}
 use Rattle.pieces.specs.declared.Found.TheVariants as F
+use Rattle.pieces.specs.declared.Code.{Code}
+use Rattle.pieces.specs.declared.Code.TheVariants.{Unexpected}
+use Rattle.pieces.specs.declared.Refusal.{Refusal}
+use Rattle.pieces.specs.Refusal.{number, refusal}
 use Rattle.nametable.specs.Table.{word}
 use Rattle.stages.specs.declared.Mode.{Mode}
 use Rattle.stages.specs.declared.Mode.TheVariants.{Between, Expects, Named, Complete}
 use Rattle.stages.specs.declared.Stage.{Stage}
-use Rattle.stages.specs.declared.Judged.{Judged}
-use Rattle.stages.specs.declared.Judged.TheVariants.{Going, Bad}
 use Rattle.stages.specs.Variables.{Variables}
 
 abbrev pub mode_of : List ℕ → Mode → ℕ → ℕ → Part.Mode
@@ -96,6 +98,11 @@ pub record Anywhere (c : Stage) : Type 0 where
 abbrev pub code : State → ℕ
 code s = full s.part ⇒ 4 ∣ crowded s.rules s.part ⇒ 5 ∣ 0
 
+-- the number of a code, or 0
+abbrev pub limit_number : Option Code → ℕ
+limit_number None = 0
+limit_number (Some c) = number c
+
 -- What the program makes of a stage
 
 abbrev pub expecting : Stage → Stage
@@ -128,15 +135,15 @@ expects Expects depth = in_brackets depth
 expects Named depth = false
 expects Complete depth = false
 
-abbrev pub halved : Judged → ℕ → Judged
-halved (Going c) at = Bad 41 (at + 1)
-halved (Bad code place) at = Bad 41 at
+abbrev pub halved : Result Stage Refusal → ℕ → Result Stage Refusal
+halved (Ok c) at = Err (refusal Unexpected (at + 1))
+halved (Err r) at = Err (refusal Unexpected at)
 
 -- What a token leads to
 
-abbrev pub After : List ℕ → List ℕ → List ℕ → Reader.Judged → Judged → Type 0
-After text counts vars j (Going c) = ((s : State) × (j ≡ Reader.going s) × Held text counts vars c s)
-After text counts vars j (Bad code place) = j ≡ Reader.bad code place
+abbrev pub After : List ℕ → List ℕ → List ℕ → Reader.Judged → Result Stage Refusal → Type 0
+After text counts vars j (Ok c) = ((s : State) × (j ≡ Reader.going s) × Held text counts vars c s)
+After text counts vars j (Err r) = j ≡ Reader.bad (number r.code) r.place
 
 -- What the piece at a place leads to
 
@@ -163,9 +170,9 @@ pub record Goes (text counts vars : List ℕ) (s : State) (at : ℕ) (f : Front.
   pub judged : judge s at piece ≡ Reader.going after
   pub held : Held text counts vars c after
 
-abbrev pub Turns : List ℕ → List ℕ → List ℕ → State → ℕ → Found → Judged → Type 0
-Turns text counts vars s at found (Going c) = Goes text counts vars s at (front_at text at found) c
-Turns text counts vars s at found (Bad code place) = (more : State → ℕ → List ℕ → Outcome) → from_front s at (front_at text at found) more ≡ refused code place
+abbrev pub Turns : List ℕ → List ℕ → List ℕ → State → ℕ → Found → Result Stage Refusal → Type 0
+Turns text counts vars s at found (Ok c) = Goes text counts vars s at (front_at text at found) c
+Turns text counts vars s at found (Err r) = (more : State → ℕ → List ℕ → Outcome) → from_front s at (front_at text at found) more ≡ refused (number r.code) r.place
 
-pub record Turned (text counts vars : List ℕ) (s : State) (at : ℕ) (found : Found) (r : Judged) : Type 0 where
+pub record Turned (text counts vars : List ℕ) (s : State) (at : ℕ) (found : Found) (r : Result Stage Refusal) : Type 0 where
   pub turns : Turns text counts vars s at found r

@@ -2,32 +2,23 @@
 ghost use Rattle.std.specs.Prelude.{◌≡◌, List, ℕ, ◌-◌, ◌<◌, ◌≤◌, length, get_or};
 ghost use Rattle.reading.specs.Part.{Part, State};
 ghost use Rattle.reading.specs.Reader.{full};
-ghost use Rattle.stages.specs.Stage.{Deep, root_count, raised, grown, is_complete, awaits, Held, Somewhere, code};
+ghost use Rattle.stages.specs.Stage.{Deep, root_count, raised, grown, is_complete, awaits, Held, Somewhere, code, limit_number};
 
 use crate::{Mode, Stage};
+use pieces::Code;
 use words::get;
 
 pub fn complete(m: Mode) -> bool
     ensures { result ≡ is_complete m }
 {
-    match m {
-        Mode::Between => false,
-        Mode::Expects => false,
-        Mode::Named => false,
-        Mode::Complete => true,
-    }
+    matches!(m, Mode::Complete)
 }
 
 // Whether a name may come.
 pub fn awaits(m: Mode) -> bool
     ensures { result ≡ awaits m }
 {
-    match m {
-        Mode::Between => true,
-        Mode::Expects => true,
-        Mode::Named => false,
-        Mode::Complete => false,
-    }
+    matches!(m, Mode::Between | Mode::Expects)
 }
 
 // "arity or body out of range": no argument, and no formula, may be added.
@@ -41,21 +32,18 @@ fn full(counts: &[u16], depth: usize, formulas: usize) -> bool
     8 <= get(counts, depth - 1)
 }
 
-// The code of a name that would be one too many, or 0.
-pub fn limit(counts: &[u16], c: Stage) -> usize
+// The code of a name that would be one too many.
+pub fn limit(counts: &[u16], c: Stage) -> Option<Code>
     requires { Somewhere counts.now c }
-    ensures { (text vars : List ℕ) (s : State) → Held text counts.now vars c s → result ≡ code s }
+    ensures { (text vars : List ℕ) (s : State) → Held text counts.now vars c s → limit_number result ≡ code s }
 {
     if full(counts, c.depth, c.formulas) {
-        return 4;
+        return Some(Code::Range);
     }
-    if 256 <= c.nodes {
-        return 5;
+    if 256 <= c.nodes || 512 <= c.rules {
+        return Some(Code::Size);
     }
-    if 512 <= c.rules {
-        return 5;
-    }
-    0
+    None
 }
 
 // One more formula, or one more argument of the innermost open symbol.
@@ -66,7 +54,6 @@ pub fn raise(counts: &mut [u16], depth: usize, formulas: usize) -> usize
     if depth == 0 {
         return formulas + 1;
     }
-    let k = depth - 1;
-    counts[k] = counts[k] + 1;
+    counts[depth - 1] += 1;
     formulas
 }

@@ -8,7 +8,7 @@ ghost use Rattle.stages.specs.Stage.{Held, Somewhere, Settled, is_opening_found,
 
 use crate::naming::{name, variable};
 use crate::signs::{arrow, closing, comma, half, opening, settle, stop};
-use pieces::Found;
+use pieces::{Found, Refusal, unexpected};
 
 pub mod counting; // formulas and arguments
 pub mod variables; // the variables of a rule
@@ -37,30 +37,10 @@ pub struct Stage {
     pub rules: usize,
 }
 
-// What a piece leads to, or a code and a place.
-#[derive(Clone, Copy)]
-pub enum Judged {
-    Going(Stage),
-    Bad(usize, usize),
-}
-
 pub fn is_opening(found: Found) -> bool
     ensures { result ≡ is_opening_found found }
 {
-    match found {
-        Found::Name(_) => false,
-        Found::Variable(_) => false,
-        Found::Space => false,
-        Found::Comment(_) => false,
-        Found::Opening => true,
-        Found::Closing => false,
-        Found::Comma => false,
-        Found::Arrow => false,
-        Found::Stop => false,
-        Found::HalfArrow => false,
-        Found::HalfStop => false,
-        Found::Nothing => false,
-    }
+    matches!(found, Found::Opening)
 }
 
 // A piece that is no opening bracket, where no bracket may follow.
@@ -71,27 +51,25 @@ fn behind(
     c: Stage,
     at: usize,
     found: Found,
-) -> Judged
+) -> Result<Stage, Refusal>
     requires { ((s : State) × Held text.now counts.old vars.old c s) × Settled c.mode × Shows text.now at found × (length text.now ≤ 65536) }
     ensures { (s : State) → Held text.now counts.old vars.old c s → Turned text.now counts.new vars.new s at found result }
 {
     match found {
         Found::Name(end) => name(counts, c, at, end - at),
         Found::Variable(end) => variable(text, counts, vars, c, at, end - at),
-        Found::Space => Judged::Going(c),
-        Found::Comment(_) => Judged::Going(c),
-        Found::Opening => Judged::Bad(41, at),
+        Found::Space | Found::Comment(_) => Ok(c),
         Found::Closing => closing(counts, c, at),
         Found::Comma => comma(counts, c, at),
         Found::Arrow => arrow(c, at),
         Found::Stop => stop(c, at),
         Found::HalfArrow => half(arrow(c, at), at),
         Found::HalfStop => half(stop(c, at), at),
-        Found::Nothing => Judged::Bad(41, at),
+        Found::Opening | Found::Nothing => Err(unexpected(at)),
     }
 }
 
-// One piece of the text.
+// One piece of the text: the stage behind it, or its refusal.
 pub fn turn(
     text: &[u8],
     counts: &mut [u16],
@@ -99,7 +77,7 @@ pub fn turn(
     c: Stage,
     at: usize,
     found: Found,
-) -> Judged
+) -> Result<Stage, Refusal>
     requires { ((s : State) × Held text.now counts.old vars.old c s) × Shows text.now at found × (length text.now ≤ 65536) }
     ensures { (s : State) → Held text.now counts.old vars.old c s → Turned text.now counts.new vars.new s at found result }
 {

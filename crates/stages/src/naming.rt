@@ -8,7 +8,8 @@ ghost use Rattle.stages.specs.Stage.{Held, Somewhere, Settled, After, raised, na
 
 use crate::counting::{awaits, limit, raise};
 use crate::variables::{keep, number};
-use crate::{Judged, Mode, Stage};
+use crate::{Mode, Stage};
+use pieces::{Code, Refusal, unexpected};
 
 // Behind a name, whose bracket may follow.
 fn named(c: Stage, at: usize, len: usize) -> Stage
@@ -18,60 +19,48 @@ fn named(c: Stage, at: usize, len: usize) -> Stage
         mode: Mode::Named,
         at,
         len,
-        depth: c.depth,
-        formulas: c.formulas,
-        nodes: c.nodes,
-        variables: c.variables,
-        rules: c.rules,
+        ..c
     }
 }
 
-pub fn name(counts: &[u16], c: Stage, at: usize, len: usize) -> Judged
+pub fn name(counts: &[u16], c: Stage, at: usize, len: usize) -> Result<Stage, Refusal>
     requires { Somewhere counts.now c × Settled c.mode × (at < 65536) }
     ensures { (text vars : List ℕ) (s : State) → Held text counts.now vars c s → at + len ≤ length text → After text counts.now vars (judge_token s at (name (word text at len))) result }
 {
-    let m = c.mode;
-    if !awaits(m) {
-        return Judged::Bad(41, at);
+    if !awaits(c.mode) {
+        return Err(unexpected(at));
     }
-    let code = limit(counts, c);
-    if code != 0 {
-        return Judged::Bad(code, at);
+    if let Some(code) = limit(counts, c) {
+        return Err(Refusal { code, place: at });
     }
     if 33 <= len {
-        return Judged::Bad(42, at + 32);
+        return Err(Refusal {
+            code: Code::LongName,
+            place: at + 32,
+        });
     }
-    Judged::Going(named(c, at, len))
+    Ok(named(c, at, len))
 }
 
 // Whether a variable may come: where a formula must not.
 fn argument_may(c: Stage) -> bool
     ensures { result ≡ expects c.mode c.depth }
 {
-    let m = c.mode;
-    match m {
-        Mode::Between => false,
-        Mode::Expects => 0 < c.depth,
-        Mode::Named => false,
-        Mode::Complete => false,
-    }
+    matches!(c.mode, Mode::Expects) && 0 < c.depth
 }
 
-// One more argument, which is a variable.
-fn with_argument(counts: &mut [u16], c: Stage, variables: usize) -> Stage
+// One more argument, or one more formula, behind which so many variables are known.
+pub fn with_argument(counts: &mut [u16], c: Stage, variables: usize) -> Stage
     requires { Somewhere counts.old c × (c.nodes < 256) }
     ensures { (result ≡ with_argument c variables) × (counts.new ≡ raised c.depth counts.old) }
 {
     let formulas = raise(counts, c.depth, c.formulas);
     Stage {
         mode: Mode::Complete,
-        at: c.at,
-        len: c.len,
-        depth: c.depth,
         formulas,
         nodes: c.nodes + 1,
         variables,
-        rules: c.rules,
+        ..c
     }
 }
 
@@ -82,21 +71,23 @@ pub fn variable(
     c: Stage,
     at: usize,
     len: usize,
-) -> Judged
+) -> Result<Stage, Refusal>
     requires { ((s : State) × Held text.now counts.old vars.old c s) × Settled c.mode × (at < 65536) × (0 < len) × (len ≤ 65536) × (at + len ≤ length text.now) }
     ensures { (s : State) → Held text.now counts.old vars.old c s → After text.now counts.new vars.new (judge_token s at (variable (word text.now at len))) result }
 {
     if !argument_may(c) {
-        return Judged::Bad(41, at);
+        return Err(unexpected(at));
     }
-    let code = limit(counts, c);
-    if code != 0 {
-        return Judged::Bad(code, at);
+    if let Some(code) = limit(counts, c) {
+        return Err(Refusal { code, place: at });
     }
     let v = number(text, vars, c.variables, at, len);
     if 64 <= v {
-        return Judged::Bad(5, at);
+        return Err(Refusal {
+            code: Code::Size,
+            place: at,
+        });
     }
     let variables = keep(vars, c.variables, v, at, len);
-    Judged::Going(with_argument(counts, c, variables))
+    Ok(with_argument(counts, c, variables))
 }

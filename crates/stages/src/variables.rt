@@ -1,7 +1,7 @@
 // The variables of a rule, by first appearance: "each lone `_` a new variable".
 ghost use Rattle.std.specs.Prelude.{◌≡◌, List, ℕ, ◌+◌, ◌<◌, ◌≤◌, length, get_or};
 ghost use Rattle.grammar.specs.Names.{same_name, place, lone, variable_number, with_variable};
-ghost use Rattle.nametable.specs.Table.{word};
+ghost use Rattle.nametable.specs.Table.{word, IsPlace};
 ghost use Rattle.stages.specs.Variables.{Variables};
 
 use nametable::same;
@@ -11,10 +11,7 @@ fn lone(text: &[u8], at: usize, len: usize) -> bool
     requires { at + len ≤ length text.now }
     ensures { result ≡ lone (word text.now at len) }
 {
-    if len != 1 {
-        return false;
-    }
-    text[at] == 95
+    len == 1 && text[at] == b'_'
 }
 
 // Whether the variable number i is the one at a place.
@@ -22,27 +19,23 @@ fn is_variable(text: &[u8], vars: &[u16], i: usize, at: usize, len: usize) -> bo
     requires { (64 + i < length vars.now) × (at + len ≤ length text.now) × (get_or vars.now i 0 + (get_or vars.now (64 + i) 0 + 1) ≤ length text.now) }
     ensures { result ≡ same_name (word text.now at len) (word text.now (get_or vars.now i 0) (get_or vars.now (64 + i) 0 + 1)) }
 {
-    if get(vars, 64 + i) + 1 != len {
-        return false;
-    }
-    same(text, at, get(vars, i), len)
+    get(vars, 64 + i) + 1 == len && same(text, at, get(vars, i), len)
 }
 
-// Where the variable at a place stands first, or how many there are.
-fn find(text: &[u8], vars: &[u16], n: usize, at: usize, len: usize) -> usize
+// The number of the variable at a place, where it stands before.
+fn find(text: &[u8], vars: &[u16], n: usize, at: usize, len: usize) -> Option<usize>
     requires { ((names : List (List ℕ)) × Variables text.now vars.now names n) × (128 ≤ length vars.now) × (at + len ≤ length text.now) }
-    ensures { (names : List (List ℕ)) → Variables text.now vars.now names n → result ≡ place (word text.now at len) names }
+    ensures { (names : List (List ℕ)) → Variables text.now vars.now names n → IsPlace result (place (word text.now at len) names) n }
 {
-    let mut i = 0;
-    while i < n {
+    for i in 0..n {
         if is_variable(text, vars, i, at, len) {
-            return i;
+            return Some(i);
         }
-        i += 1;
     }
-    n
+    None
 }
 
+// The number of the variable at a place: a new one, and each lone `_`, is numbered behind the others.
 pub fn number(text: &[u8], vars: &[u16], n: usize, at: usize, len: usize) -> usize
     requires { ((names : List (List ℕ)) × Variables text.now vars.now names n) × (128 ≤ length vars.now) × (at + len ≤ length text.now) }
     ensures { (names : List (List ℕ)) → Variables text.now vars.now names n → result ≡ variable_number names (word text.now at len) }
@@ -50,7 +43,7 @@ pub fn number(text: &[u8], vars: &[u16], n: usize, at: usize, len: usize) -> usi
     if lone(text, at, len) {
         return n;
     }
-    find(text, vars, n, at, len)
+    find(text, vars, n, at, len).unwrap_or(n)
 }
 
 // Puts a new variable behind the others; how many there are then.

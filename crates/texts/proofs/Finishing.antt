@@ -28,8 +28,9 @@ use Rattle.drafts.specs.declared.Draft.{Draft}
 use Rattle.drafts.specs.declared.Kind.{Kind}
 use Rattle.drafts.specs.declared.Kind.TheVariants.{Constant, Compound, Predicate}
 use Rattle.drafts.specs.Drafted.{sort_of_kind, section_of}
-use Rattle.reader.specs.declared.walking.Ended.{Ended}
-use Rattle.reader.specs.declared.walking.Ended.TheVariants.{Refused, Read}
+use Rattle.std.specs.Prelude.{Result, Ok, Err}
+use Rattle.pieces.specs.declared.Refusal.{Refusal}
+use Rattle.pieces.specs.Refusal.{number}
 use Rattle.reader.specs.Kept.{Kept}
 use Rattle.reader.specs.Walking.{whole, Rules, Ends, Empty}
 use Rattle.reader.specs.Book.{tables-are}
@@ -46,7 +47,7 @@ use Rattle.readouts.specs.Outcome as Outcome
 use Rattle.readouts.specs.Outcome.{done, filled}
 use Rattle.readouts.proofs.OutcomeLaws.{is-refused, is-two, is-no-room, is_read, room-is, full_is}
 use Rattle.readouts.specs.Is.{Is}
-use Rattle.readouts.proofs.Good.{refusal-coded, code-low, refusal-low}
+use Rattle.readouts.proofs.Good.{refusal-low}
 use Rattle.texts.specs.Finished.{Came, Named, Finished, KeptOne, list_bytes, list_size}
 use Rattle.texts.proofs.Names.{section_heard, section_within, list-named, list-long}
 
@@ -77,23 +78,20 @@ pub too_long : (text books lists : List ℕ) (r : ReadText) → 65536 < length t
 unfolding reading
 too_long text books lists r h e = answers e (is-refused text books lists 40 0 (rw (lt-ltb 65536 (length text) h) refl))
 
-module _ (text out starts lens : List ℕ) (e : Ended) (code place : ℕ) (c : Came text out starts lens e) (q : e ≡ Refused code place) where
-  refused_as : reading text ≡ Reader.refused code place
-  refused_as = ends-refused code place c.short (subst (Ends text out c.opens starts lens c.heads c.nexts) q c.ends)
+module _ (text out starts lens : List ℕ) (e : Result Draft Refusal) (k : Refusal) (c : Came text out starts lens e) (q : e ≡ Err k) where
+  refused_as : reading text ≡ Reader.refused (number k.code) k.place
+  refused_as = ends-refused k c.short (subst (Ends text out c.opens starts lens c.heads c.nexts) q c.ends)
 
-  pub refused-code : code < 256
-  refused-code = code-low (refusal-coded (refusal text code place refused_as))
+  pub refused-place : k.place ≤ 65536
+  refused-place = omega (arith, refusal-low (refusal text (number k.code) k.place refused_as), c.short)
 
-  pub refused-place : place ≤ 65536
-  refused-place = omega (arith, refusal-low (refusal text code place refused_as), c.short)
+  pub refused-is : (books lists : List ℕ) (code : ℕ) (r : ReadText) → code ≡ number k.code → r ≡ Outcome.refusal code k.place → Is text books lists r books lists
+  refused-is books lists code r p f = answers (f ∙ ap (λ (n : ℕ). Outcome.refusal n k.place) p) (is-refused text books lists (number k.code) k.place refused_as)
 
-  pub refused-is : (books lists : List ℕ) (r : ReadText) → r ≡ Outcome.refusal code place → Is text books lists r books lists
-  refused-is books lists r f = answers f (is-refused text books lists code place refused_as)
-
-pub came-read : (text out starts lens : List ℕ) (e : Ended) (b : Draft) → e ≡ Read b → Came text out starts lens e → Came text out starts lens (Read b)
+pub came-read : (text out starts lens : List ℕ) (e : Result Draft Refusal) (b : Draft) → e ≡ Ok b → Came text out starts lens e → Came text out starts lens (Ok b)
 came-read text out starts lens e b q c = subst (Came text out starts lens) q c
 
-module _ (text out starts lens : List ℕ) (b : Draft) (c : Came text out starts lens (Read b)) where
+module _ (text out starts lens : List ℕ) (b : Draft) (c : Came text out starts lens (Ok b)) where
   pub long-is : (books lists : List ℕ) (r : ReadText) → 32769 < b.from → r ≡ Outcome.refusal 5 (length text) → Is text books lists r books lists
   long-is books lists r h f = answers f (is-refused text books lists 5 (length text) (ends-long c.short c.ends h))
 

@@ -1,20 +1,20 @@
 -- What is held when a text is read to its end.
-use Rattle.std.specs.Prelude.{ℕ, ◌+◌, ◌≤◌, ◌≡◌, List, ◌++◌, length}
+use Rattle.std.specs.Prelude.{ℕ, ◌+◌, ◌≤◌, ◌≡◌, List, ◌++◌, length, Result}
 use Rattle.format.specs.Format.{encode_book}
 use Rattle.format.specs.Arities.{book_uses}
 use Rattle.grammar.specs.Syntax.{Rule}
 use Rattle.grammar.specs.Names.{book, name_list}
 use Rattle.reading.specs.Reader as Reader
+use Rattle.pieces.specs.declared.Refusal.{Refusal}
 use Rattle.symbols.specs.Sections.{part}
 use Rattle.drafts.specs.declared.Draft.{Draft}
 use Rattle.listing.specs.Lists.{heard, noted, sizes, Within}
 use Rattle.reader.specs.Walking.{Ends}
-use Rattle.reader.specs.declared.walking.Ended.{Ended}
 use Rattle.readouts.specs.declared.Arities.TheVariants.{One}
 use Rattle.readouts.specs.Clash.{arities}
 
 -- the pass has ended so
-pub record Came (text out starts lens : List ℕ) (e : Ended) : Type 0 where
+pub record Came (text out starts lens : List ℕ) (e : Result Draft Refusal) : Type 0 where
   pub opens : List ℕ
   pub heads : List ℕ
   pub nexts : List ℕ

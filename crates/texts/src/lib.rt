@@ -1,17 +1,17 @@
 // Rules typed on a laptop (document 02, C-13).
 #![tactic(auto)]
 
-ghost use Rattle.std.specs.Prelude.{◌≡◌, ◌<◌, ◌≤◌, length};
+ghost use Rattle.std.specs.Prelude.{◌≡◌, ◌<◌, ◌≤◌, length, Ok};
 ghost use Rattle.storage.specs.Storage.{Written};
 ghost use Rattle.readouts.specs.Outcome.{refusal, read_answer, read_book, names_read};
 ghost use Rattle.readouts.specs.Is.{Is};
-ghost use Rattle.reader.specs.declared.walking.Ended.TheVariants.{Read};
 ghost use Rattle.texts.specs.Finished.{Came, Named, Finished, KeptOne, list_bytes, list_size};
 
 use crate::places::formula_place;
 use drafts::Draft;
 use listing::{measure, put_bytes, put_names};
-use reader::walking::{Ended, walk};
+use pieces::Refusal;
+use reader::walking::walk;
 use readouts::{Arities, ReadText};
 use scanning::find_arities;
 
@@ -111,7 +111,7 @@ fn finish(
     out: &mut [u8],
     b: Draft,
 ) -> ReadText
-    requires { Came text.now out.old starts.now lens.now (Read b) }
+    requires { Came text.now out.old starts.now lens.now (Ok b) }
     ensures { Is text.now book.old names.old result book.new names.new }
 {
     if 32769 < b.from {
@@ -130,14 +130,14 @@ fn answer(
     starts: &[u16],
     lens: &[u8],
     out: &mut [u8],
-    ended: Ended,
+    ended: Result<Draft, Refusal>,
 ) -> ReadText
     requires { Came text.now out.old starts.now lens.now ended }
     ensures { Is text.now book.old names.old result book.new names.new }
 {
     match ended {
-        Ended::Refused(code, place) => refusal(code as u8, place),
-        Ended::Read(b) => finish(text, book, names, starts, lens, out, b),
+        Err(refused) => refusal(u8::from(refused.code), refused.place),
+        Ok(b) => finish(text, book, names, starts, lens, out, b),
     }
 }
 

@@ -12,7 +12,7 @@ pub is_name-requires : goal.is_name-requires
 is_name-requires c = record { i_in_bounds = (omega (arith, c.requires.room.starts_room, c.loop-e.invariant.0, c.loop-e-test.true), omega (arith, c.requires.room.lens_room, c.loop-e.invariant.0, c.loop-e-test.true), c.requires.len_in_bounds); i_in_bounds_2 = c.requires.by_index.1.entries.inside (c.loop-e.e - 1) (omega (arith, c.loop-e.invariant.0, c.loop-e-test.true)) }
 
 pub returns-then-is_name : goal.returns-then-is_name
-returns-then-is_name c = λ names t. search-found t.entries (word c.args.text.now c.args.at c.args.len) (c.loop-e.e - 1) (omega (arith, c.loop-e.invariant.0, c.loop-e-test.true)) (is_that t.entries c.args.at c.args.len (c.loop-e.e - 1) _ c.is_name.ensures (omega (arith, c.loop-e.invariant.0, c.loop-e-test.true)) c.if-is_name.true)
+returns-then-is_name c = λ names t. (search-found t.entries (word c.args.text.now c.args.at c.args.len) (c.loop-e.e - 1) (omega (arith, c.loop-e.invariant.0, c.loop-e-test.true)) (is_that t.entries c.args.at c.args.len (c.loop-e.e - 1) _ c.is_name.ensures (omega (arith, c.loop-e.invariant.0, c.loop-e-test.true)) c.if-is_name.true), omega (arith, c.loop-e.invariant.0, c.loop-e-test.true))
 
 pub loop-e-smaller : goal.loop-e-smaller
 loop-e-smaller c = search-less c.requires.by_index.1 (word c.args.text.now c.args.at c.args.len) _ _ (c.loop-e.invariant.1 c.requires.by_index.0 c.requires.by_index.1) c.loop-e-test.true c.get-e-in-loop-e.ensures.0

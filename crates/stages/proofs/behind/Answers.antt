@@ -1,5 +1,7 @@
 use Rattle.stages.proofs.Turning.{span-inside, span-some, span-low}
 use native.Mathlib.Omega.{arith}
+use mathlib.Core.Logic.{inl, inr}
+use Rattle.stages.proofs.Holding.{unexpected-at}
 use mathlib.Core.Path.{refl, ap}
 use Rattle.grammar.specs.Token.{opening, arrow, stop}
 use Rattle.pieces.specs.Found.{front_at}
@@ -38,13 +40,18 @@ pub returns-in-Variable : goal.returns-in-Variable
 returns-in-Variable c = λ s h. token-turned _ _ _ s _ _ _ _ _ (ap (front_at _ _) c.in-Variable.is) (c.variable.ensures s h)
 
 pub returns-in-Space : goal.returns-in-Space
-returns-in-Space c = λ s h. gap_turned _ s _ _ _ _ (ap (front_at _ _) c.in-Space.is) refl h c.requires.1
-
-pub returns-in-Comment : goal.returns-in-Comment
-returns-in-Comment c = λ s h. gap_turned _ s _ _ _ _ (ap (front_at _ _) c.in-Comment.is) refl h c.requires.1
+returns-in-Space c =
+    elim c.in-Space.is [
+      | inl e ↦ λ s h. gap_turned _ s _ _ _ _ (ap (front_at _ _) e) refl h c.requires.1
+      | inr e ↦ λ s h. gap_turned _ s _ _ _ _ (ap (front_at _ _) e.1) refl h c.requires.1
+    ]
 
 pub returns-in-Opening : goal.returns-in-Opening
-returns-in-Opening c = λ s h. token-turned _ _ _ s _ _ opening _ _ (ap (front_at _ _) c.in-Opening.is) (opening-wrong _ _ _ h refl c.requires.1)
+returns-in-Opening c =
+    elim c.in-Opening.is [
+      | inl e ↦ λ s h. token-turned _ _ _ s _ _ opening _ _ (ap (front_at _ _) e) (unexpected-at c.unexpected.ensures (opening-wrong _ _ _ h refl c.requires.1))
+      | inr e ↦ λ s h. nothing-turned _ _ _ s _ _ _ c.unexpected.ensures (ap (front_at _ _) e)
+    ]
 
 pub returns-in-Closing : goal.returns-in-Closing
 returns-in-Closing c = λ s h. token-turned _ _ _ s _ _ _ _ _ (ap (front_at _ _) c.in-Closing.is) (c.closing.ensures _ _ s h)
@@ -63,6 +70,3 @@ returns-in-HalfArrow c = λ s h. half-turned _ _ _ s _ _ arrow c.arrow-in-HalfAr
 
 pub returns-in-HalfStop : goal.returns-in-HalfStop
 returns-in-HalfStop c = λ s h. half-turned _ _ _ s _ _ stop c.stop-in-HalfStop.result _ (ap (front_at _ _) c.in-HalfStop.is) refl refl (c.stop-in-HalfStop.ensures _ _ _ s h) c.half-in-HalfStop.ensures
-
-pub returns-in-Nothing : goal.returns-in-Nothing
-returns-in-Nothing c = λ s h. nothing-turned _ _ _ s _ _ (ap (front_at _ _) c.in-Nothing.is)

@@ -5,12 +5,3 @@ use Rattle.reader.proofs.walking.end.Goals as goal
 
 pub returns-in-Between : goal.returns-in-Between
 returns-in-Between c = sym (ap (λ (m : Mode). ends m c.args.b c.args.at) c.in-Between.is)
-
-pub returns-in-Expects : goal.returns-in-Expects
-returns-in-Expects c = sym (ap (λ (m : Mode). ends m c.args.b c.args.at) c.in-Expects.is)
-
-pub returns-in-Named : goal.returns-in-Named
-returns-in-Named c = sym (ap (λ (m : Mode). ends m c.args.b c.args.at) c.in-Named.is)
-
-pub returns-in-Complete : goal.returns-in-Complete
-returns-in-Complete c = sym (ap (λ (m : Mode). ends m c.args.b c.args.at) c.in-Complete.is)

@@ -15,7 +15,7 @@ pub is_variable-requires : goal.is_variable-requires
 is_variable-requires c = (omega (arith, c.loop-i-test.true, c.requires.0.1.few, c.requires.1), c.requires.2, c.requires.0.1.inside _ c.loop-i-test.true)
 
 pub returns-then-is_variable : goal.returns-then-is_variable
-returns-then-is_variable c = λ names h. place-first (word c.args.text.now c.args.at c.args.len) names _ (omega (arith, h.count, c.loop-i-test.true)) (c.loop-i.invariant.1 names h) (ap (same_name (word c.args.text.now c.args.at c.args.len)) (sym (h.named _ c.loop-i-test.true)) ∙ sym c.is_variable.ensures ∙ c.if-is_variable.true)
+returns-then-is_variable c = λ names h. (place-first (word c.args.text.now c.args.at c.args.len) names _ (omega (arith, h.count, c.loop-i-test.true)) (c.loop-i.invariant.1 names h) (ap (same_name (word c.args.text.now c.args.at c.args.len)) (sym (h.named _ c.loop-i-test.true)) ∙ sym c.is_variable.ensures ∙ c.if-is_variable.true), c.loop-i-test.true)
 
 pub loop-i-preserved : goal.loop-i-preserved
 loop-i-preserved c = (search rules, λ names h. found-more (word c.args.text.now c.args.at c.args.len) names _ (c.loop-i.invariant.1 names h) (ap (same_name (word c.args.text.now c.args.at c.args.len)) (sym (h.named _ c.loop-i-test.true)) ∙ sym c.is_variable.ensures ∙ c.if-is_variable.false))
