@@ -72,6 +72,10 @@ number-inside {s} {at} n = omega (arith, n.body, body-some (get_or s at 0) n.low
 pub arity-inside : {s : List ℕ} {at : ℕ} → NodeAt s at → 2 < get_or s at 0 → at + 3 < length s
 arity-inside {s} {at} n l = omega (arith, n.body, body-led (get_or s at 0) l n.high)
 
+pub number-bytes : (s : List ℕ) (at : ℕ) → number_at s (at + 1) ≡ get_or s (at + 1) 0 * 256 + get_or s (at + 2) 0
+unfolding number_at
+number-bytes s at = ap (λ k. get_or s (at + 1) 0 * 256 + get_or s k 0) (omega arith)
+
 -- a word is its record's bytes in another order
 pub word-bare : (s : List ℕ) (at k : ℕ) → 1 ≤ k → k ≤ 2 → word_of (record_at s at k) ≡ k * 0x100_0000 + number_at s (at + 1)
 unfolding record_at word_of word

@@ -60,48 +60,47 @@ pub ruleset writing = (writing-next, writing-fits, writing-end)
 
 -- A goal's words behind its header.
 
-abbrev with_head : ℕ → List ℕ → List ℕ
-with_head formulas area = set (set (set area 0 6) 1 (formulas / 256)) 2 (formulas % 256)
+abbrev with_head : ℕ → ℕ → List ℕ → List ℕ
+with_head high low area = set (set (set area 0 6) 1 high) 2 low
 
-drop-headed : (formulas : ℕ) (area : List ℕ) (n : ℕ) → 3 ≤ n → drop n (with_head formulas area) ≡ drop n area
-drop-headed formulas area n q =
-    drop-set-lt n (set (set area 0 6) 1 (formulas / 256)) 2 (formulas % 256) (omega arith) ∙ drop-set-lt n (set area 0 6) 1 (formulas / 256) (omega arith) ∙ drop-set-lt n area 0 6 (omega arith)
+drop-headed : (high low : ℕ) (area : List ℕ) (n : ℕ) → 3 ≤ n → drop n (with_head high low area) ≡ drop n area
+drop-headed high low area n q = drop-set-lt n (set (set area 0 6) 1 high) 2 low (omega arith) ∙ drop-set-lt n (set area 0 6) 1 high (omega arith) ∙ drop-set-lt n area 0 6 (omega arith)
 
-headed-length : (formulas : ℕ) (area : List ℕ) → length (with_head formulas area) ≡ length area
-headed-length formulas area = simp length-set
+headed-length : (high low : ℕ) (area : List ℕ) → length (with_head high low area) ≡ length area
+headed-length high low area = simp length-set
 
-abbrev head_rest : ℕ → List ℕ → List ℕ
-head_rest formulas area = take (length (with_head formulas area) - 3) (drop 3 (with_head formulas area))
+abbrev head_rest : ℕ → ℕ → List ℕ → List ℕ
+head_rest high low area = take (length (with_head high low area) - 3) (drop 3 (with_head high low area))
 
 pub image-fits : {words before part : List ℕ} {formulas r : ℕ} → (g : Next.Goal) × Writable words formulas g → Written (words_bytes words) before part r → Fits w64 (3 + r)
 image-fits {words} h w = omega (arith, w.count, words-short words, writable-words h.1)
 
-module _ {words : List ℕ} {formulas : ℕ} (area : List ℕ) (writable : (g : Next.Goal) × Writable words formulas g) (room : 16387 ≤ length area) where
-  pub image-room : (length words ≤ 4096) × (4 * length words ≤ length (head_rest formulas area))
+module _ {words : List ℕ} {formulas : ℕ} (high low : ℕ) (area : List ℕ) (writable : (g : Next.Goal) × Writable words formulas g) (room : 16387 ≤ length area) where
+  pub image-room : (length words ≤ 4096) × (4 * length words ≤ length (head_rest high low area))
   image-room =
-      let a = with_head formulas area in
+      let a = with_head high low area in
       let few = writable-words writable.1 in
-      (few, omega (arith, headed-length formulas area, length-take-le (length a - 3) (drop 3 a) (omega (arith, length-drop 3 a))))
+      (few, omega (arith, headed-length high low area, length-take-le (length a - 3) (drop 3 a) (omega (arith, length-drop 3 a))))
 
-  -- what is written behind the header
-  module _ {part : List ℕ} {r : ℕ} (w : Written (words_bytes words) (head_rest formulas area) part r) where
-    imaged : Filling (image words formulas) (with_head formulas area) (put_mid 3 (length (with_head formulas area) - 3) (with_head formulas area) part) (3 + r) []
+  -- what is written behind the header, whose bytes are the number's
+  module _ {part : List ℕ} {r : ℕ} (is : (high ≡ formulas / 256) × (low ≡ formulas % 256)) (w : Written (words_bytes words) (head_rest high low area) part r) where
+    imaged : Filling (image words formulas) (with_head high low area) (put_mid 3 (length (with_head high low area) - 3) (with_head high low area) part) (3 + r) []
     imaged =
         let few = writable-words writable.1 in
-        let head : List ℕ = 6 ∷ formulas / 256 ∷ formulas % 256 ∷ [] in
+        let head : List ℕ = 6 ∷ high ∷ low ∷ [] in
         filling-part {rest = []} record {
-          room = omega (arith, words-short words, headed-length formulas area);
+          room = omega (arith, words-short words, headed-length high low area);
           front = head;
           long = refl;
-          written = sets-eq head area 0 (omega arith) ∙ ap (λ l. head ++ l) (inv (drop-headed formulas area 3 (omega arith)));
-          same = ap (λ l. head ++ l) (append-nil (words_bytes words));
+          written = sets-eq head area 0 (omega arith) ∙ ap (λ l. head ++ l) (inv (drop-headed high low area 3 (omega arith)));
+          same = ap₂ (λ h l. 6 ∷ h ∷ l ∷ (words_bytes words ++ [])) is.0 is.1 ∙ ap (λ l. 6 ∷ formulas / 256 ∷ formulas % 256 ∷ l) (append-nil (words_bytes words));
         } w
 
-    pub image-length : length (put_mid 3 (length (with_head formulas area) - 3) (with_head formulas area) part) ≡ length area
-    image-length = filling-length imaged ∙ headed-length formulas area
+    pub image-length : length (put_mid 3 (length (with_head high low area) - 3) (with_head high low area) part) ≡ length area
+    image-length = filling-length imaged ∙ headed-length high low area
 
-    pub image-whole : (g : Next.Goal) → Writable words formulas g → Written (encode_goal g) area (put_mid 3 (length (with_head formulas area) - 3) (with_head formulas area) part) (3 + r)
+    pub image-whole : (g : Next.Goal) → Writable words formulas g → Written (encode_goal g) area (put_mid 3 (length (with_head high low area) - 3) (with_head high low area) part) (3 + r)
     image-whole g h =
         let x = filling-done imaged in
         let e = writable-image h in
-        record { count = x.count ∙ ap length e; holds = x.holds ∙ ap₂ ◌++◌ e (drop-headed formulas area (3 + r) (omega arith)) }
+        record { count = x.count ∙ ap length e; holds = x.holds ∙ ap₂ ◌++◌ e (drop-headed high low area (3 + r) (omega arith)) }

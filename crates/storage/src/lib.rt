@@ -19,11 +19,8 @@ fn word_at(bytes: &[u8], at: usize) -> u32
     ensures { result ≡ word_of (record_at bytes.now at (get_or bytes.now at 0)) }
 {
     let kind = bytes[at];
-    let bare = kind as u32 * 0x100_0000 + number_at(bytes, at + 1) as u32;
-    if kind <= 2 {
-        return bare;
-    }
-    bare + bytes[at + 3] as u32 * 0x1_0000
+    let arity = if kind <= 2 { 0 } else { bytes[at + 3] };
+    u32::from_be_bytes([kind, arity, bytes[at + 1], bytes[at + 2]])
 }
 
 // How many formulas a good query has.
@@ -31,7 +28,7 @@ pub fn count_formulas(query: &[u8]) -> usize
     requires { Askable query.now }
     ensures { result ≡ length (goal_of query.now) }
 {
-    number_at(query, 1) as usize
+    usize::from(number_at(query, 1))
 }
 
 // Writes the words of a good query, and answers how many they are.
@@ -51,20 +48,6 @@ pub fn load_goal(query: &[u8], words: &mut [u32]) -> usize
     n
 }
 
-fn widen(x: u8) -> u16
-    ensures { result ≡ x }
-{
-    x as u16
-}
-
-// How many formulas the body of the clause at a place has.
-fn body_count(book: &[u8], at: usize) -> u16
-    requires { at + 1 < length book.now }
-    ensures { result ≡ get_or book.now (at + 1) 0 }
-{
-    widen(book[at + 1])
-}
-
 // Writes the words of a good book, clause by clause; where each clause's words start, with the end of the last at the
 // end; and how many formulas each body has. Answers how many clauses they are. A node has three bytes at least.
 pub fn load_book(book: &[u8], words: &mut [u32], starts: &mut [u16], bodies: &mut [u16]) -> usize
@@ -82,7 +65,7 @@ pub fn load_book(book: &[u8], words: &mut [u32], starts: &mut [u16], bodies: &mu
             n += 1;
         } else {
             starts[k] = n as u16;
-            bodies[k] = body_count(book, at);
+            bodies[k] = u16::from(book[at + 1]);
             k += 1;
         }
         at = past;
@@ -105,37 +88,33 @@ pub fn formula_end(words: &[u32], from: usize) -> usize
     end
 }
 
-fn wide(x: u16) -> usize
-    ensures { result ≡ x }
-{
-    x as usize
-}
-
 // Writes where each clause's head ends.
 pub fn place_heads(words: &[u32], starts: &[u16], clauses: usize, heads: &mut [u16])
     requires stored { (b : Book) × Stored b words.now starts.now clauses }
     requires clauses_in_bounds { clauses ≤ length heads.old }
     ensures { (b : Book) → Stored b words.now starts.now clauses → heads.new ≡ book_heads 0 b ++ drop clauses heads.old }
 {
-    let mut k = 0;
-    while k < clauses {
-        heads[k] = formula_end(words, wide(starts[k])) as u16;
-        k += 1;
+    for k in 0..clauses {
+        heads[k] = formula_end(words, usize::from(starts[k])) as u16;
     }
 }
+
+// Words from here on are those of compound terms and formulas, which have an arity.
+const FIRST_WITH_ARITY: u32 = 0x300_0000;
 
 // The record of the node that a word stands for.
 fn write_node(word: u32, area: &mut [u8]) -> usize
     requires { 4 ≤ length area.old }
     ensures { Written (word_bytes word) area.old area.new result }
 {
-    area[0] = (word / 0x100_0000) as u8;
-    area[1] = (word / 256 % 256) as u8;
-    area[2] = (word % 256) as u8;
-    if word < 0x300_0000 {
+    let [kind, arity, high, low] = word.to_be_bytes();
+    area[0] = kind;
+    area[1] = high;
+    area[2] = low;
+    if word < FIRST_WITH_ARITY {
         return 3;
     }
-    area[3] = (word / 0x1_0000 % 256) as u8;
+    area[3] = arity;
     4
 }
 
@@ -145,12 +124,8 @@ fn write_words(words: &[u32], area: &mut [u8]) -> usize
     ensures { Written (words_bytes words.now) area.old area.new result }
 {
     let mut written = 0;
-    let mut i = 0;
-    while i < words.len() {
-        let rest = &mut area[written..];
-        let n = write_node(words[i], rest);
-        written += n;
-        i += 1;
+    for word in words {
+        written += write_node(*word, &mut area[written..]);
     }
     written
 }
@@ -162,10 +137,9 @@ pub fn write_goal(words: &[u32], formulas: usize, area: &mut [u8]) -> usize
     requires in_bounds { 16387 ≤ length area.old }
     ensures { (g : Goal) → Writable words.now formulas g → Written (encode_goal g) area.old area.new result }
 {
+    let [high, low] = (formulas as u16).to_be_bytes();
     area[0] = 6;
-    area[1] = (formulas / 256) as u8;
-    area[2] = (formulas % 256) as u8;
-    let rest = &mut area[3..];
-    let bytes = write_words(words, rest);
-    3 + bytes
+    area[1] = high;
+    area[2] = low;
+    3 + write_words(words, &mut area[3..])
 }

@@ -4,7 +4,7 @@ use Rattle.storage.proofs.Loading.{goal-count}
 use Rattle.storage.proofs.count_formulas.Goals as goal
 
 pub number_at-requires : goal.number_at-requires
-number_at-requires c = (goal-count _ (λ i. omega (arith, c.shared_slice_known-1.given i)) c.requires).0
+number_at-requires c = (goal-count _ (λ i. omega (arith, c.type_inv.query i)) c.requires).0
 
 pub returns : goal.returns
-returns c = c.number_at.ensures ∙ (goal-count _ (λ i. omega (arith, c.shared_slice_known-1.given i)) c.requires).1
+returns c = c.from.ensures ∙ c.number_at.ensures ∙ (goal-count _ (λ i. omega (arith, c.type_inv.query i)) c.requires).1

@@ -3,7 +3,7 @@ use Rattle.storage.proofs.BookLoading.{book-start, book-loading}
 use Rattle.storage.proofs.load_book.Goals as goal
 
 pub loop-at-init : goal.loop-at-init
-loop-at-init c = book-start _ _ _ _ (λ i. omega (arith, c.shared_slice_known-1.given i)) c.requires.book_value c.requires.book_len_bound.0 c.requires.book_len_bound.1 c.requires.book_len_bound.2
+loop-at-init c = book-start _ _ _ _ (λ i. omega (arith, c.type_inv.book i)) c.requires.book_value c.requires.book_len_bound.0 c.requires.book_len_bound.1 c.requires.book_len_bound.2
 
 pub next_at-past-requires : goal.next_at-past-requires
 next_at-past-requires c = search book-loading
@@ -17,8 +17,8 @@ bounds-words-n c = search book-loading
 pub bounds-starts-k : goal.bounds-starts-k
 bounds-starts-k c = search book-loading
 
-pub body_count-requires : goal.body_count-requires
-body_count-requires c = search book-loading
+pub bounds-book-at-else-book-at-le4 : goal.bounds-book-at-else-book-at-le4
+bounds-book-at-else-book-at-le4 c = search book-loading
 
 pub bounds-bodies-k : goal.bounds-bodies-k
 bounds-bodies-k c = search book-loading

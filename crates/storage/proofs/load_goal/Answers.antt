@@ -3,7 +3,7 @@ use Rattle.storage.proofs.Loading.{goal-start, goal-loading}
 use Rattle.storage.proofs.load_goal.Goals as goal
 
 pub loop-at-init : goal.loop-at-init
-loop-at-init c = goal-start _ _ (λ i. omega (arith, c.shared_slice_known-1.given i)) c.requires.askable c.requires.in_bounds
+loop-at-init c = goal-start _ _ (λ i. omega (arith, c.type_inv.query i)) c.requires.askable c.requires.in_bounds
 
 pub next_at-past-requires : goal.next_at-past-requires
 next_at-past-requires c = search goal-loading

@@ -8,7 +8,7 @@ pub bounds-starts-k : goal.bounds-starts-k
 bounds-starts-k c = search placing
 
 pub formula_end-requires : goal.formula_end-requires
-formula_end-requires c = head-there c.loop-k.invariant c.loop-k-test.true c.wide.ensures
+formula_end-requires c = head-there c.loop-k.invariant c.loop-k-test.true c.from.ensures
 
 pub overflow_cast-heads : goal.overflow_cast-heads
 overflow_cast-heads c = search placing

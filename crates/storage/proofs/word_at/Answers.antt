@@ -1,25 +1,22 @@
 use native.Mathlib.Omega.{arith}
-use Prim.Native.Nat.{◌+◌}
-use Rattle.storage.proofs.Loading.{number-inside, arity-inside, word-bare, word-led}
+use Rattle.storage.proofs.Loading.{number-inside, arity-inside, number-bytes, word-bare, word-led}
 use Rattle.storage.proofs.word_at.Goals as goal
+use Rattle.storage.proofs.word_at.Goals.{then-kind-le2, else-kind-le2}
 
-pub number_at-requires : goal.number_at-requires
-number_at-requires c = number-inside c.requires
-
-pub returns-then-kind-le2 : goal.returns-then-kind-le2
-returns-then-kind-le2 c = let b = c in omega (arith, word-bare b.args.bytes.now b.args.at _ b.requires.low c.if-kind-le2.true, c.number_at.ensures)
+pub bounds-bytes-at-else-kind-le2 : goal.bounds-bytes-at-else-kind-le2
+bounds-bytes-at-else-kind-le2 c = arity-inside c.requires (omega (arith, c.if-kind-le2.false))
 
 pub bounds-bytes-at-2 : goal.bounds-bytes-at-2
-bounds-bytes-at-2 c = arity-inside c.requires (omega (arith, c.if-kind-le2.false))
+bounds-bytes-at-2 c = omega (arith, number-inside c.requires)
 
-pub overflow_cast-result : goal.overflow_cast-result
-overflow_cast-result c = let f = c.shared_slice_known-3-1.given (c.args.at + 3) in omega arith
-
-pub overflow_mul-result : goal.overflow_mul-result
-overflow_mul-result c = let f = c.shared_slice_known-3-1.given (c.args.at + 3) in omega arith
-
-pub overflow_add-result-2 : goal.overflow_add-result-2
-overflow_add-result-2 c = let f = c.shared_slice_known-3-1.given (c.args.at + 3) in omega arith
+pub bounds-bytes-at-3 : goal.bounds-bytes-at-3
+bounds-bytes-at-3 c = omega (arith, number-inside c.requires)
 
 pub returns : goal.returns
-returns c = let b = c in omega (arith, word-led b.args.bytes.now b.args.at _ (omega (arith, c.if-kind-le2.false)) b.requires.high, c.number_at.ensures)
+returns c =
+    let s = c.args.bytes.now in
+    let at = c.args.at in
+    elim c.if-kind-le2.branch [
+      | then-kind-le2 w ↦ omega (arith, word-bare s at _ c.requires.low w.if-kind-le2.true, number-bytes s at)
+      | else-kind-le2 w ↦ omega (arith, word-led s at _ (omega (arith, w.if-kind-le2.false)) c.requires.high, number-bytes s at)
+    ]
