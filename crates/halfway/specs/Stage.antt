@@ -1,16 +1,15 @@
 -- The reader of a query's text in numbers: what the program makes of a stage.
-use Rattle.std.specs.Prelude.{ℕ, zero, suc, ◌+◌, ◌-◌, ◌≤◌, ◌<◌, ◌≡◌, Bool, true, false, not, List, [], ◌∷◌, length, get_or, set, eqb, leb, ltb}
+use Rattle.std.specs.Prelude.{ℕ, zero, suc, ◌+◌, ◌-◌, ◌≤◌, ◌<◌, ◌≡◌, Bool, true, false, not, List, [], ◌∷◌, length, get_or, set, eqb, leb, ltb, Result, Ok, Err, ⊤}
 use Rattle.terms.specs.When.{◌⇒◌∣◌}
 use Rattle.pieces.specs.declared.Found.{Found}
 use Rattle.pieces.specs.declared.Found.TheVariants as F
+use Rattle.pieces.specs.declared.Code.TheVariants.{Unexpected}
+use Rattle.pieces.specs.declared.Refusal.{Refusal}
+use Rattle.pieces.specs.Refusal.{number, refusal}
 use Rattle.asking.specs.Asking.{Tally, tally}
 use Rattle.halfway.specs.declared.Mode.{Mode}
 use Rattle.halfway.specs.declared.Mode.TheVariants.{Begin, Expects, Named, Complete, Over, Wrong}
 use Rattle.halfway.specs.declared.Stage.{Stage}
-use Rattle.halfway.specs.declared.Judged.{Judged}
-use Rattle.halfway.specs.declared.Judged.TheVariants.{Going, Bad}
-use Rattle.halfway.specs.declared.Ended.{Ended}
-use Rattle.halfway.specs.declared.Ended.TheVariants.{Fine, Refused}
 use Rattle.halfway.specs.Machine.{settled, when, unless, on_name, on_variable, on_opening, behind, may_end}
 
 -- Pieces
@@ -79,6 +78,11 @@ size_at counts c at F.Nothing = 0
 abbrev pub place_of : ℕ → ℕ → ℕ
 place_of code at = eqb code 42 ⇒ at + 32 ∣ at
 
+-- no size is passed, or the refusal has this code and its place
+abbrev pub Passes : ℕ → ℕ → Result ⊤ Refusal → Type 0
+Passes code at (Ok u) = code ≡ 0
+Passes code at (Err r) = (number r.code ≡ code) × (r.place ≡ place_of code at)
+
 -- The stage behind a piece
 
 abbrev pub kept_stage : Stage → Mode → Stage
@@ -133,20 +137,25 @@ counts_after counts c F.Nothing = counts
 abbrev pub next : Stage → Found → Mode
 next c found = after_found c.mode (ltb 0 c.depth) found
 
-abbrev pub turned : List ℕ → Stage → ℕ → Found → Judged
+-- a refusal by the number of its code, and its place
+abbrev pub numbered : Result Stage Refusal → Result Stage (ℕ × ℕ)
+numbered (Ok d) = Ok d
+numbered (Err r) = Err (number r.code, r.place)
+
+abbrev pub turned : List ℕ → Stage → ℕ → Found → Result Stage (ℕ × ℕ)
 turned counts c at found =
-    is_wrong (next c found) ⇒ Bad 41 at
-    ∣ is_half found ⇒ Bad 41 (at + 1)
-    ∣ not (eqb (size_at counts c at found) 0) ⇒ Bad (size_at counts c at found) (place_of (size_at counts c at found) at)
-    ∣ Going (stage_after c (next c found) found)
+    is_wrong (next c found) ⇒ Err (41, at)
+    ∣ is_half found ⇒ Err (41, at + 1)
+    ∣ not (eqb (size_at counts c at found) 0) ⇒ Err (size_at counts c at found, place_of (size_at counts c at found) at)
+    ∣ Ok (stage_after c (next c found) found)
 
 -- the counts afterwards, where it goes on
-abbrev pub Left : List ℕ → List ℕ → Stage → Found → Judged → Type 0
-Left counts counts' c found (Going d) = counts' ≡ counts_after counts c found
-Left counts counts' c found (Bad code place) = Unit {0}
+abbrev pub Left : List ℕ → List ℕ → Stage → Found → Result Stage Refusal → Type 0
+Left counts counts' c found (Ok d) = counts' ≡ counts_after counts c found
+Left counts counts' c found (Err r) = Unit {0}
 
-abbrev pub ends_at : Stage → ℕ → Ended
-ends_at c at = may_end c.mode (ltb 0 c.depth) ⇒ Fine ∣ Refused 41 at
+abbrev pub ends_at : Stage → ℕ → Result ⊤ Refusal
+ends_at c at = may_end c.mode (ltb 0 c.depth) ⇒ Ok tt ∣ Err (refusal Unexpected at)
 
 abbrev pub start_stage : Stage
 start_stage = record { mode = Begin; outside = 0; depth = 0; words = 0 }

@@ -8,12 +8,7 @@ use pieces::Found;
 fn keep(c: Stage, mode: Mode) -> Stage
     ensures { result ≡ kept_stage c mode }
 {
-    Stage {
-        mode,
-        outside: c.outside,
-        depth: c.depth,
-        words: c.words,
-    }
+    Stage { mode, ..c }
 }
 
 fn word(c: Stage, mode: Mode) -> Stage
@@ -22,9 +17,8 @@ fn word(c: Stage, mode: Mode) -> Stage
 {
     Stage {
         mode,
-        outside: c.outside,
-        depth: c.depth,
         words: c.words + 1,
+        ..c
     }
 }
 
@@ -32,13 +26,11 @@ fn open(counts: &mut [u16], c: Stage, mode: Mode) -> Stage
     requires { (c.depth < length counts.old) × (length counts.old ≤ 65536) }
     ensures { (result ≡ open_stage c mode) × (counts.new ≡ open_counts counts.old c) }
 {
-    let d = c.depth;
-    counts[d] = 0;
+    counts[c.depth] = 0;
     Stage {
         mode,
-        outside: c.outside,
-        depth: d + 1,
-        words: c.words,
+        depth: c.depth + 1,
+        ..c
     }
 }
 
@@ -48,9 +40,8 @@ fn close(c: Stage, mode: Mode) -> Stage
 {
     Stage {
         mode,
-        outside: c.outside,
         depth: c.depth - 1,
-        words: c.words,
+        ..c
     }
 }
 
@@ -58,23 +49,15 @@ fn comma(counts: &mut [u16], c: Stage, mode: Mode) -> Stage
     requires { Ready counts.old c }
     ensures { (result ≡ comma_stage c mode) × (counts.new ≡ comma_counts counts.old c) }
 {
-    let d = c.depth;
-    if d == 0 {
+    if c.depth == 0 {
         return Stage {
             mode,
             outside: c.outside + 1,
-            depth: d,
-            words: c.words,
+            ..c
         };
     }
-    let k = d - 1;
-    counts[k] = counts[k] + 1;
-    Stage {
-        mode,
-        outside: c.outside,
-        depth: d,
-        words: c.words,
-    }
+    counts[c.depth - 1] += 1;
+    Stage { mode, ..c }
 }
 
 // What a piece that may stand here changes.
@@ -83,17 +66,10 @@ pub fn advance(counts: &mut [u16], c: Stage, mode: Mode, found: Found) -> Stage
     ensures { (result ≡ stage_after c mode found) × (counts.new ≡ counts_after counts.old c found) }
 {
     match found {
-        Found::Name(_) => word(c, mode),
-        Found::Variable(_) => word(c, mode),
-        Found::Space => keep(c, mode),
-        Found::Comment(_) => keep(c, mode),
+        Found::Name(_) | Found::Variable(_) => word(c, mode),
         Found::Opening => open(counts, c, mode),
         Found::Closing => close(c, mode),
         Found::Comma => comma(counts, c, mode),
-        Found::Arrow => keep(c, mode),
-        Found::Stop => keep(c, mode),
-        Found::HalfArrow => keep(c, mode),
-        Found::HalfStop => keep(c, mode),
-        Found::Nothing => keep(c, mode),
+        _ => keep(c, mode),
     }
 }

@@ -24,17 +24,3 @@ pub struct Stage {
     pub depth: usize,
     pub words: usize,
 }
-
-// What a piece leads to, or a code and a place.
-#[derive(Clone, Copy)]
-pub enum Judged {
-    Going(Stage),
-    Bad(usize, usize),
-}
-
-// A query's text, or a code and a place.
-#[derive(Clone, Copy)]
-pub enum Ended {
-    Fine,
-    Refused(usize, usize),
-}

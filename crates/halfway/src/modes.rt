@@ -11,43 +11,29 @@ fn settled(m: Mode) -> Mode
     ensures { result ≡ settled m }
 {
     match m {
-        Mode::Begin => Mode::Begin,
-        Mode::Expects => Mode::Expects,
         Mode::Named => Mode::Complete,
-        Mode::Complete => Mode::Complete,
-        Mode::Over => Mode::Over,
-        Mode::Wrong => Mode::Wrong,
+        _ => m,
     }
 }
 
 fn when(test: bool, m: Mode) -> Mode
     ensures { result ≡ when test m }
 {
-    if test {
-        return m;
-    }
-    Mode::Wrong
+    if test { m } else { Mode::Wrong }
 }
 
 fn unless(test: bool, m: Mode) -> Mode
     ensures { result ≡ unless test m }
 {
-    if test {
-        return Mode::Wrong;
-    }
-    m
+    if test { Mode::Wrong } else { m }
 }
 
 fn on_name(m: Mode) -> Mode
     ensures { result ≡ on_name m }
 {
     match m {
-        Mode::Begin => Mode::Named,
-        Mode::Expects => Mode::Named,
-        Mode::Named => Mode::Wrong,
-        Mode::Complete => Mode::Wrong,
-        Mode::Over => Mode::Wrong,
-        Mode::Wrong => Mode::Wrong,
+        Mode::Begin | Mode::Expects => Mode::Named,
+        _ => Mode::Wrong,
     }
 }
 
@@ -56,12 +42,8 @@ fn on_variable(m: Mode, deep: bool) -> Mode
     ensures { result ≡ on_variable m deep }
 {
     match m {
-        Mode::Begin => Mode::Wrong,
         Mode::Expects => when(deep, Mode::Complete),
-        Mode::Named => Mode::Wrong,
-        Mode::Complete => Mode::Wrong,
-        Mode::Over => Mode::Wrong,
-        Mode::Wrong => Mode::Wrong,
+        _ => Mode::Wrong,
     }
 }
 
@@ -70,12 +52,8 @@ fn on_opening(m: Mode) -> Mode
     ensures { result ≡ on_opening m }
 {
     match m {
-        Mode::Begin => Mode::Wrong,
-        Mode::Expects => Mode::Wrong,
         Mode::Named => Mode::Expects,
-        Mode::Complete => Mode::Wrong,
-        Mode::Over => Mode::Wrong,
-        Mode::Wrong => Mode::Wrong,
+        _ => Mode::Wrong,
     }
 }
 
@@ -84,12 +62,8 @@ fn behind(m: Mode, n: Mode) -> Mode
     ensures { result ≡ behind m n }
 {
     match m {
-        Mode::Begin => Mode::Wrong,
-        Mode::Expects => Mode::Wrong,
-        Mode::Named => n,
-        Mode::Complete => n,
-        Mode::Over => Mode::Wrong,
-        Mode::Wrong => Mode::Wrong,
+        Mode::Named | Mode::Complete => n,
+        _ => Mode::Wrong,
     }
 }
 
@@ -99,30 +73,19 @@ pub fn after(m: Mode, deep: bool, found: Found) -> Mode
     match found {
         Found::Name(_) => on_name(m),
         Found::Variable(_) => on_variable(m, deep),
-        Found::Space => settled(m),
-        Found::Comment(_) => settled(m),
+        Found::Space | Found::Comment(_) => settled(m),
         Found::Opening => on_opening(m),
         Found::Closing => behind(m, when(deep, Mode::Complete)),
         Found::Comma => behind(m, Mode::Expects),
-        Found::Arrow => Mode::Wrong,
-        Found::Stop => behind(m, unless(deep, Mode::Over)),
-        Found::HalfArrow => Mode::Wrong,
-        Found::HalfStop => behind(m, unless(deep, Mode::Over)),
-        Found::Nothing => Mode::Wrong,
+        Found::Stop | Found::HalfStop => behind(m, unless(deep, Mode::Over)),
+        Found::Arrow | Found::HalfArrow | Found::Nothing => Mode::Wrong,
     }
 }
 
 pub fn wrong(m: Mode) -> bool
     ensures { result ≡ is_wrong m }
 {
-    match m {
-        Mode::Begin => false,
-        Mode::Expects => false,
-        Mode::Named => false,
-        Mode::Complete => false,
-        Mode::Over => false,
-        Mode::Wrong => true,
-    }
+    matches!(m, Mode::Wrong)
 }
 
 // Whether the text may end.
@@ -130,11 +93,8 @@ pub fn may_end(m: Mode, deep: bool) -> bool
     ensures { result ≡ may_end m deep }
 {
     match m {
-        Mode::Begin => true,
-        Mode::Expects => false,
-        Mode::Named => !deep,
-        Mode::Complete => !deep,
-        Mode::Over => true,
-        Mode::Wrong => false,
+        Mode::Begin | Mode::Over => true,
+        Mode::Named | Mode::Complete => !deep,
+        Mode::Expects | Mode::Wrong => false,
     }
 }

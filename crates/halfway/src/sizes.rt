@@ -1,9 +1,9 @@
 // What would be one too many, and names that are too long.
 ghost use Rattle.std.specs.Prelude.{◌≡◌, ◌≤◌, ◌<◌, length};
-ghost use Rattle.halfway.specs.Stage.{full_at, code_at, name_size, size_at, place_of};
+ghost use Rattle.halfway.specs.Stage.{full_at, code_at, name_size, size_at, Passes};
 
 use crate::Stage;
-use pieces::Found;
+use pieces::{Code, Found, Refusal};
 use words::get;
 
 // The formula here would be the 513th, or the argument the 9th.
@@ -17,60 +17,49 @@ fn full(counts: &[u16], depth: usize, outside: usize) -> bool
     8 <= get(counts, depth - 1)
 }
 
-fn code(counts: &[u16], c: Stage) -> usize
+// Whether there is room for one more name or variable.
+fn word_size(counts: &[u16], c: Stage, at: usize) -> Result<(), Refusal>
     requires { c.depth ≤ length counts.now }
-    ensures { result ≡ code_at counts.now c }
+    ensures { Passes (code_at counts.now c) at result }
 {
     if full(counts, c.depth, c.outside) {
-        return 14;
+        return Err(Refusal {
+            code: Code::QueryRange,
+            place: at,
+        });
     }
     if 4096 <= c.words {
-        return 15;
+        return Err(Refusal {
+            code: Code::QuerySize,
+            place: at,
+        });
     }
-    0
+    Ok(())
 }
 
-fn name_size(code: usize, at: usize, end: usize) -> usize
-    requires { at < 65536 }
-    ensures { result ≡ name_size code at end }
-{
-    if code != 0 {
-        return code;
-    }
-    if at + 32 < end {
-        return 42;
-    }
-    0
-}
-
-// The code of a size that the piece passes, or 0.
-pub fn size(counts: &[u16], c: Stage, at: usize, found: Found) -> usize
+// The same for a name that ends there: one that is too long is refused at its 33rd byte.
+fn name_size(counts: &[u16], c: Stage, at: usize, end: usize) -> Result<(), Refusal>
     requires { (c.depth ≤ length counts.now) × (at < 65536) }
-    ensures { result ≡ size_at counts.now c at found }
+    ensures { Passes (name_size (code_at counts.now c) at end) at result }
+{
+    word_size(counts, c, at)?;
+    if at + 32 < end {
+        return Err(Refusal {
+            code: Code::LongName,
+            place: at + 32,
+        });
+    }
+    Ok(())
+}
+
+// Whether the piece passes no size.
+pub fn size(counts: &[u16], c: Stage, at: usize, found: Found) -> Result<(), Refusal>
+    requires { (c.depth ≤ length counts.now) × (at < 65536) }
+    ensures { Passes (size_at counts.now c at found) at result }
 {
     match found {
-        Found::Name(end) => name_size(code(counts, c), at, end),
-        Found::Variable(_) => code(counts, c),
-        Found::Space => 0,
-        Found::Comment(_) => 0,
-        Found::Opening => 0,
-        Found::Closing => 0,
-        Found::Comma => 0,
-        Found::Arrow => 0,
-        Found::Stop => 0,
-        Found::HalfArrow => 0,
-        Found::HalfStop => 0,
-        Found::Nothing => 0,
+        Found::Name(end) => name_size(counts, c, at, end),
+        Found::Variable(_) => word_size(counts, c, at),
+        _ => Ok(()),
     }
-}
-
-// A name's is its 33rd byte.
-pub fn place(code: usize, at: usize) -> usize
-    requires { at < 65536 }
-    ensures { result ≡ place_of code at }
-{
-    if code == 42 {
-        return at + 32;
-    }
-    at
 }

@@ -19,17 +19,16 @@ use Rattle.asking.specs.Asking.{Tally, tally, counted, closed, with_comma, full,
 use Rattle.halfway.specs.declared.Mode.{Mode}
 use Rattle.halfway.specs.declared.Mode.TheVariants.{Begin, Expects, Named, Complete, Over, Wrong}
 use Rattle.halfway.specs.declared.Stage.{Stage}
-use Rattle.halfway.specs.declared.Judged.{Judged}
-use Rattle.halfway.specs.declared.Judged.TheVariants.{Going, Bad}
+use Rattle.std.specs.Prelude.{Result, Ok, Err}
 use Rattle.halfway.specs.Machine.{settled, after, deep, Answer, bad, sized, judged, half, from}
 use Rattle.pieces.specs.Found.{end_of}
 use Rattle.halfway.specs.Stage.{is_wrong, name_size, size_at, place_of, stage_after, counts_after, next, turned, stack, tally_of}
 use Rattle.turns.proofs.Turning.{deep-stack, code-stack, stack_top}
 
 -- what is done with a piece that is judged
-abbrev pub answered : (Mode → Tally → ℕ → List ℕ → Answer) → List ℕ → ℕ → List ℕ → Judged → Answer
-answered more counts at rest (Going d) = more d.mode (tally_of counts d) at rest
-answered more counts at rest (Bad c i) = bad c i
+abbrev pub answered : (Mode → Tally → ℕ → List ℕ → Answer) → List ℕ → ℕ → List ℕ → Result Stage (ℕ × ℕ) → Answer
+answered more counts at rest (Ok d) = more d.mode (tally_of counts d) at rest
+answered more counts at rest (Err r) = bad r.0 r.1
 
 -- Tests
 
@@ -119,7 +118,7 @@ module _ (text counts : List ℕ) (c : Stage) (at : ℕ) (more : Mode → Tally 
       rw (deep-stack counts c.depth, l, g, a)
       (cases (is_wrong (next c found)) (λ w. rw w (judged-wrong (next c found) 0 false at _ w)) (λ w. rw w (judged-right (next c found) 0 false at _ w ∙ e)))
 
-  turned-sign : (found : Found) (b : Bool) (d : Stage) → answered more (counts_after counts c found) (end_of at found) (drop (end_of at found) text) (b ⇒ Bad 41 at ∣ Going d)
+  turned-sign : (found : Found) (b : Bool) (d : Stage) → answered more (counts_after counts c found) (end_of at found) (drop (end_of at found) text) (b ⇒ Err (41, at) ∣ Ok d)
       ≡ (b ⇒ bad 41 at ∣ more d.mode (tally_of (counts_after counts c found) d) (end_of at found) (drop (end_of at found) text))
   turned-sign found true d = refl
   turned-sign found false d = refl
@@ -158,13 +157,13 @@ module _ (text counts : List ℕ) (c : Stage) (at : ℕ) (more : Mode → Tally 
       (λ w. rw w (judged-right (next c found) (code y) l at _ w ∙ ap (sized (code y) l at) e ∙ sized-code (code y) l at x (code-not y))))
 
   turned-word : (found : Found) (b l : Bool) (k s : ℕ) (d : Stage) → s ≡ (not (eqb k 0) ⇒ k ∣ l ⇒ 42 ∣ 0) → (k ≡ 42 → ⊥) →
-      answered more (counts_after counts c found) (end_of at found) (drop (end_of at found) text) (b ⇒ Bad 41 at ∣ false ⇒ Bad 41 (at + 1) ∣ not (eqb s 0) ⇒ Bad s (place_of s at) ∣ Going d)
+      answered more (counts_after counts c found) (end_of at found) (drop (end_of at found) text) (b ⇒ Err (41, at) ∣ false ⇒ Err (41, at + 1) ∣ not (eqb s 0) ⇒ Err (s, place_of s at) ∣ Ok d)
       ≡ (b ⇒ bad 41 at ∣ not (eqb k 0) ⇒ bad k at ∣ l ⇒ bad 42 (at + 32) ∣ more d.mode (tally_of (counts_after counts c found) d) (end_of at found) (drop (end_of at found) text))
   turned-word found true l k s d e n = refl
   turned-word found false l zero s d e n = by l e
     where
       by : (l : Bool) → s ≡ (l ⇒ 42 ∣ 0) →
-          answered more (counts_after counts c found) (end_of at found) (drop (end_of at found) text) (not (eqb s 0) ⇒ Bad s (place_of s at) ∣ Going d)
+          answered more (counts_after counts c found) (end_of at found) (drop (end_of at found) text) (not (eqb s 0) ⇒ Err (s, place_of s at) ∣ Ok d)
           ≡ (l ⇒ bad 42 (at + 32) ∣ more d.mode (tally_of (counts_after counts c found) d) (end_of at found) (drop (end_of at found) text))
       by true e = rw e refl
       by false e = rw e refl

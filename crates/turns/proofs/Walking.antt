@@ -17,14 +17,14 @@ use Rattle.asking.specs.Asking.{begin, none_yet, Tally, Outcome, read, refused, 
 use Rattle.halfway.specs.declared.Mode.{Mode}
 use Rattle.halfway.specs.declared.Mode.TheVariants.{Begin}
 use Rattle.halfway.specs.declared.Stage.{Stage}
-use Rattle.halfway.specs.declared.Judged.{Judged}
-use Rattle.halfway.specs.declared.Judged.TheVariants.{Going, Bad}
-use Rattle.halfway.specs.declared.Ended.{Ended}
-use Rattle.halfway.specs.declared.Ended.TheVariants.{Fine, Refused}
+use Rattle.std.specs.Prelude.{Result, Ok, Err, ⊤}
+use Rattle.pieces.specs.declared.Code.TheVariants.{Unexpected}
+use Rattle.pieces.specs.declared.Refusal.{Refusal}
+use Rattle.pieces.specs.Refusal.{number, refusal}
 use Rattle.halfway.specs.Machine.{deep, may_end, Answer, fine, bad, told, from, ended, pass}
 use Rattle.turns.specs.MachineLaws.{begins, passes}
 use Rattle.pieces.specs.Found.{end_of}
-use Rattle.halfway.specs.Stage.{is_wrong, is_half, full_at, code_at, name_size, size_at, place_of, stage_after, counts_after, next, turned, Left, ends_at, start_stage, tally_of, Held}
+use Rattle.halfway.specs.Stage.{is_wrong, is_half, full_at, code_at, name_size, size_at, place_of, numbered, stage_after, counts_after, next, turned, Left, ends_at, start_stage, tally_of, Held}
 use Rattle.turns.specs.Passing.{answer_of, LowEnd, Ends, checked, text_check}
 use Rattle.turns.proofs.Turning.{deep-stack, ready}
 use Rattle.turns.proofs.Holding.{held_next}
@@ -51,17 +51,17 @@ record Went (counts : List ℕ) (c : Stage) (at : ℕ) (found : Found) (d : Stag
   small : size_at counts c at found ≡ 0
   stage : d ≡ stage_after c (next c found) found
 
-clash : {X : Type 0} {a b : ℕ} {d : Stage} → Bad a b ≡ Going d → X
+clash : {X : Type 0} {a : ℕ × ℕ} {d : Stage} → Err a ≡ Ok d → X
 clash e = let z : ◌≡◌ {A = ℕ} 0 1 = cc in absurd (omega arith)
 
-went : (counts : List ℕ) (c : Stage) (at : ℕ) (found : Found) (d : Stage) → turned counts c at found ≡ Going d → Went counts c at found d
+went : (counts : List ℕ) (c : Stage) (at : ℕ) (found : Found) (d : Stage) → turned counts c at found ≡ Ok d → Went counts c at found d
 went counts c at found d e =
     cases (is_wrong (next c found)) (λ w. clash (rw w at e))
     (λ w.
     cases (is_half found) (λ h. clash (rw (w, h) at e))
     (λ h.
     cases (eqb (size_at counts c at found) 0)
-    (λ s. record { right = w; whole_token = h; small = eqb-true (size_at counts c at found) 0 s; stage = let q : Going (stage_after c (next c found) found) ≡ Going d = rw (w, h, s) at e in cc })
+    (λ s. record { right = w; whole_token = h; small = eqb-true (size_at counts c at found) 0 s; stage = let q : ◌≡◌ {A = Result Stage (ℕ × ℕ)} (Ok (stage_after c (next c found) found)) (Ok d) = rw (w, h, s) at e in cc })
     (λ s. clash (rw (w, h, s) at e))))
 
 inside-end : (text : List ℕ) (at : ℕ) (found : Found) → Inside text at found → (at < end_of at found) × (end_of at found ≤ length text)
@@ -123,10 +123,10 @@ starts {text} {counts} c at e q l n =
       short = l;
     })
 
-pub again : {text counts : List ℕ} {c : Stage} {at : ℕ} (found : Found) (r : Judged) (d : Stage) (counts' : List ℕ) (end : ℕ) → Standing text counts c at → at < length text → Shows text at found →
-    r ≡ turned counts c at found → r ≡ Going d → Left counts counts' c found r → end ≡ end_of at found → Standing text counts' d end
+pub again : {text counts : List ℕ} {c : Stage} {at : ℕ} (found : Found) (r : Result Stage Refusal) (d : Stage) (counts' : List ℕ) (end : ℕ) → Standing text counts c at → at < length text → Shows text at found →
+    numbered r ≡ turned counts c at found → r ≡ Ok d → Left counts counts' c found r → end ≡ end_of at found → Standing text counts' d end
 again {text} {counts} {c} {at} found r d counts' end s l sh e g f q =
-    let t : turned counts c at found ≡ Going d = inv e ∙ g in
+    let t : turned counts c at found ≡ Ok d = inv e ∙ ap numbered g in
     let w = went counts c at found d t in
     let p = stepped found s l sh in
     let i = inside-end text at found sh.inside in
@@ -173,9 +173,9 @@ size_low counts c at F.Nothing = omega arith
 place-low : (k at : ℕ) → at < 65536 → place_of k at ≤ 65600
 place-low k at h = cases (eqb k 42) (λ e. rw e (let q : at + 32 ≤ 65600 = omega arith in q)) (λ e. rw e (let q : at ≤ 65600 = omega arith in q))
 
-abbrev LowBad : Judged → Type 0
-LowBad (Going d) = Unit {0}
-LowBad (Bad k i) = (k < 256) × (i ≤ 65600)
+abbrev LowBad : Result Stage (ℕ × ℕ) → Type 0
+LowBad (Ok d) = Unit {0}
+LowBad (Err r) = (r.0 < 256) × (r.1 ≤ 65600)
 
 bad-low : (counts : List ℕ) (c : Stage) (at : ℕ) (found : Found) → at < 65536 → LowBad (turned counts c at found)
 bad-low counts c at found h =
@@ -187,25 +187,25 @@ bad-low counts c at found h =
 pub told-whole : (text : List ℕ) → whole text ≡ told (walk (suc (length text)) begin none_yet 0 text)
 told-whole text = passes (suc (length text)) begin Begin none_yet 0 text begins
 
-pub bad-ends : {text counts : List ℕ} {c : Stage} {at : ℕ} (found : Found) (r : Judged) (k i : ℕ) → Standing text counts c at → at < length text → Shows text at found →
-    r ≡ turned counts c at found → r ≡ Bad k i → Ends text (Refused k i)
-bad-ends {text} {counts} {c} {at} found r k i s l sh e g =
-    let t : turned counts c at found ≡ Bad k i = inv e ∙ g in
+pub bad-ends : {text counts : List ℕ} {c : Stage} {at : ℕ} (found : Found) (r : Result Stage Refusal) (k : Refusal) → Standing text counts c at → at < length text → Shows text at found →
+    numbered r ≡ turned counts c at found → r ≡ Err k → Ends text (Err k)
+bad-ends {text} {counts} {c} {at} found r k s l sh e g =
+    let t : turned counts c at found ≡ Err (number k.code, k.place) = inv e ∙ ap numbered g in
     let p = stepped found s l sh in
     record {
       answers = ap (answered (pass p.fuel) (counts_after counts c found) (end_of at found) (drop (end_of at found) text)) (inv t) ∙ p.says ∙ told-whole text;
       low = subst LowBad t (bad-low counts c at found (omega (arith, l, s.short)));
     }
 
-end-answer : (b : Bool) (at : ℕ) → answer_of (b ⇒ Fine ∣ Refused 41 at) ≡ ended b at
+end-answer : (b : Bool) (at : ℕ) → answer_of (b ⇒ Ok tt ∣ Err (refusal Unexpected at)) ≡ ended b at
 end-answer true at = refl
 end-answer false at = refl
 
-end_low : (b : Bool) (at : ℕ) → at ≤ 65536 → LowEnd (b ⇒ Fine ∣ Refused 41 at)
+end_low : (b : Bool) (at : ℕ) → at ≤ 65536 → LowEnd (b ⇒ Ok tt ∣ Err (refusal Unexpected at))
 end_low true at h = tt
 end_low false at h = (omega arith, omega arith)
 
-pub walk_ends : {text counts : List ℕ} {c : Stage} {at : ℕ} (r : Ended) → Standing text counts c at → length text ≤ at → r ≡ ends_at c at → Ends text r
+pub walk_ends : {text counts : List ℕ} {c : Stage} {at : ℕ} (r : Result ⊤ Refusal) → Standing text counts c at → length text ≤ at → r ≡ ends_at c at → Ends text r
 walk_ends {text} {counts} {c} {at} r s l e =
     rw e
     (record {
@@ -232,13 +232,13 @@ pub long-checked : (text : List ℕ) → 65536 < length text → checked 40 0 �
 unfolding asking
 long-checked text h = rw (lt-ltb 65536 (length text) h) refl
 
-pub fine-checked : (text : List ℕ) (r : Ended) → length text ≤ 65536 → r ≡ Fine → Ends text r → checked 0 0 ≡ text_check (asking text)
+pub fine-checked : (text : List ℕ) (r : Result ⊤ Refusal) → length text ≤ 65536 → r ≡ Ok tt → Ends text r → checked 0 0 ≡ text_check (asking text)
 unfolding asking
 fine-checked text r h e s = rw (le-ltb 65536 (length text) h) (fine-read (walk (suc (length text)) begin none_yet 0 text) (ap answer_of (inv e) ∙ s.answers))
 
-pub refused-checked : (text : List ℕ) (r : Ended) (k i : ℕ) → length text ≤ 65536 → r ≡ Refused k i → Ends text r → checked k i ≡ text_check (asking text)
+pub refused-checked : (text : List ℕ) (r : Result ⊤ Refusal) (k : Refusal) → length text ≤ 65536 → r ≡ Err k → Ends text r → checked (number k.code) k.place ≡ text_check (asking text)
 unfolding asking
-refused-checked text r k i h e s = rw (le-ltb 65536 (length text) h) (bad-refused (walk (suc (length text)) begin none_yet 0 text) (ap answer_of (inv e) ∙ s.answers))
+refused-checked text r k h e s = rw (le-ltb 65536 (length text) h) (bad-refused (walk (suc (length text)) begin none_yet 0 text) (ap answer_of (inv e) ∙ s.answers))
 
-pub refused-low : {text : List ℕ} (r : Ended) (k i : ℕ) → r ≡ Refused k i → Ends text r → (k < 256) × (i ≤ 65600)
-refused-low r k i e s = subst LowEnd e s.low
+pub refused-low : {text : List ℕ} (r : Result ⊤ Refusal) (k : Refusal) → r ≡ Err k → Ends text r → (number k.code < 256) × (k.place ≤ 65600)
+refused-low r k e s = subst LowEnd e s.low

@@ -3,14 +3,14 @@
 
 ghost use Rattle.std.specs.Prelude.{◌≡◌, ◌≤◌, ◌<◌, length, ltb};
 ghost use Rattle.asking.specs.Asking.{asking};
-ghost use Rattle.halfway.specs.Stage.{Held, is_half, turned, Left, ends_at, start_stage};
+ghost use Rattle.halfway.specs.Stage.{Held, is_half, numbered, turned, Left, ends_at, start_stage};
 ghost use Rattle.turns.specs.Passing.{Ends, text_check};
 
 use halfway::advancing::advance;
 use halfway::modes::{after, may_end, wrong};
-use halfway::sizes::{place, size};
-use halfway::{Ended, Judged, Mode, Stage};
-use pieces::{Found, end_of, piece_at};
+use halfway::sizes::size;
+use halfway::{Mode, Stage};
+use pieces::{Found, Refusal, end_of, piece_at, unexpected};
 
 #[derive(Clone, Copy)]
 pub struct TextCheck {
@@ -29,40 +29,23 @@ fn deep(depth: usize) -> bool
 fn is_half(found: Found) -> bool
     ensures { result ≡ is_half found }
 {
-    match found {
-        Found::Name(_) => false,
-        Found::Variable(_) => false,
-        Found::Space => false,
-        Found::Comment(_) => false,
-        Found::Opening => false,
-        Found::Closing => false,
-        Found::Comma => false,
-        Found::Arrow => false,
-        Found::Stop => false,
-        Found::HalfArrow => true,
-        Found::HalfStop => true,
-        Found::Nothing => false,
-    }
+    matches!(found, Found::HalfArrow | Found::HalfStop)
 }
 
-// One piece of the text.
-pub fn turn(counts: &mut [u16], c: Stage, at: usize, found: Found) -> Judged
+// One piece of the text: the stage behind it, or its refusal.
+pub fn turn(counts: &mut [u16], c: Stage, at: usize, found: Found) -> Result<Stage, Refusal>
     requires { Held counts.old c at × (at < 65536) }
-    ensures { (result ≡ turned counts.old c at found) × Left counts.old counts.new c found result }
+    ensures { (numbered result ≡ turned counts.old c at found) × Left counts.old counts.new c found result }
 {
-    let m = c.mode;
-    let mode = after(m, deep(c.depth), found);
+    let mode = after(c.mode, deep(c.depth), found);
     if wrong(mode) {
-        return Judged::Bad(41, at);
+        return Err(unexpected(at));
     }
     if is_half(found) {
-        return Judged::Bad(41, at + 1);
+        return Err(unexpected(at + 1));
     }
-    let code = size(counts, c, at, found);
-    if code != 0 {
-        return Judged::Bad(code, place(code, at));
-    }
-    Judged::Going(advance(counts, c, mode, found))
+    size(counts, c, at, found)?;
+    Ok(advance(counts, c, mode, found))
 }
 
 fn start() -> Stage
@@ -77,17 +60,17 @@ fn start() -> Stage
 }
 
 // The end of the text.
-fn end(c: Stage, at: usize) -> Ended
+fn end(c: Stage, at: usize) -> Result<(), Refusal>
     ensures { result ≡ ends_at c at }
 {
-    let m = c.mode;
-    if may_end(m, deep(c.depth)) {
-        return Ended::Fine;
+    if may_end(c.mode, deep(c.depth)) {
+        return Ok(());
     }
-    Ended::Refused(41, at)
+    Err(unexpected(at))
 }
 
-fn pass(text: &[u8], counts: &mut [u16]) -> Ended
+// A text of at most 65,536 bytes.
+fn pass(text: &[u8], counts: &mut [u16]) -> Result<(), Refusal>
     requires { (length text.now ≤ 65536) × (length counts.old ≡ 4097) }
     ensures { Ends text.now result }
 {
@@ -95,20 +78,13 @@ fn pass(text: &[u8], counts: &mut [u16]) -> Ended
     let mut at = 0;
     while at < text.len() {
         let found = piece_at(text, at);
-        match turn(counts, c, at, found) {
-            Judged::Going(next) => {
-                c = next;
-                at = end_of(found, at);
-            }
-            Judged::Bad(code, place) => {
-                return Ended::Refused(code, place);
-            }
-        }
+        c = turn(counts, c, at, found)?;
+        at = end_of(found, at);
     }
     end(c, at)
 }
 
-// Whether a text is a query's: its refusal, or 0.
+// Whether a text is a query's: its refusal, or 0. The numbers stay: docs/CONTRACTS.md and docs/FORMAT.md give what `check_text` answers by them.
 pub fn check_text(text: &[u8]) -> TextCheck
     ensures { result ≡ text_check (asking text.now) }
 {
@@ -117,10 +93,10 @@ pub fn check_text(text: &[u8]) -> TextCheck
     }
     let mut counts = [0u16; 4097];
     match pass(text, &mut counts) {
-        Ended::Fine => TextCheck { code: 0, place: 0 },
-        Ended::Refused(code, place) => TextCheck {
-            code: code as u8,
-            place: place as u32,
+        Ok(()) => TextCheck { code: 0, place: 0 },
+        Err(refused) => TextCheck {
+            code: u8::from(refused.code),
+            place: refused.place as u32,
         },
     }
 }

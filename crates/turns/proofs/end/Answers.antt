@@ -5,4 +5,4 @@ pub returns-then-may_end : goal.returns-then-may_end
 returns-then-may_end c = end-fine c.args.c c.args.at _ _ c.deep.ensures c.may_end.ensures c.if-may_end.true
 
 pub returns : goal.returns
-returns c = end-early c.args.c c.args.at _ _ c.deep.ensures c.may_end.ensures c.if-may_end.false
+returns c = end-early c.args.c c.args.at _ _ c.deep.ensures c.may_end.ensures c.if-may_end.false c.unexpected.ensures
