@@ -5,7 +5,6 @@ use Rattle.search.specs.Next.{Clause, Goal, Resolved}
 use Rattle.search.specs.Room.{fits}
 use Rattle.search.specs.Answer.{small}
 use Rattle.words.specs.Word.{Fits, nodes}
-use Rattle.words.specs.Columns.{WORDS, CELLS}
 use Rattle.words.specs.Held.{RowIn, ClauseIn}
 use Rattle.picking.specs.Laying.{moved}
 use Rattle.applying.specs.declared.Cut.{Cut}
@@ -23,12 +22,6 @@ pub record Wrote (k : ℕ) (out : List ℕ) (at : ℕ) (t : Expr) (z : List ℕ)
   pub kept : take at z ≡ take at out
   pub done : (r ≡ 65535 → ⊥) → nodes (take r (drop at z)) ≡ t
   pub fit : (r ≡ 65535 → ⊥) → Fits k (take r (drop at z))
-
--- storage
-pub record Store (words rows out : List ℕ) : Type 0 where
-  pub words_length : length words ≡ WORDS
-  pub rows_length : length rows ≡ CELLS
-  pub out_length : length out ≡ 8192
 
 -- the row holds the goal of f and g, and the answer a; the clause is c; they are cut so
 pub record Stage (row clause : List ℕ) (cut : Cut) (f : Expr) (g a : Goal) (c : Clause) : Type 0 where

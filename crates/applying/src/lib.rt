@@ -11,7 +11,10 @@ ghost use Rattle.words.specs.Word.{nodes, Valids, Fits};
 ghost use Rattle.numbering.specs.Naming.{NAMES};
 ghost use Rattle.positions.specs.Tables.{SolvedIn, solution_in};
 ghost use Rattle.picking.specs.Picking.{Matched};
-ghost use Rattle.applying.specs.Applying.{Built, Wrote, Store, Stage, Staged, Applied, too_big, sizes};
+ghost use Rattle.applying.specs.Applying.{Built, Wrote, Stage, Staged, Applied, too_big, sizes};
+
+use words::rows::CELLS;
+use words::{OUT, WORDS};
 
 // What stands in the place of a number of words: it does not fit.
 pub const FULL: usize = 65535;
@@ -34,8 +37,8 @@ pub struct Sizes {
 }
 
 // Behind the first formula and the head: the body, and the rest of the row, moved past the clause's variables; where they end.
-fn build(words: &mut [u32], row: &[u32], m: usize, clause: &[u32], k: usize) -> usize
-    requires { (m ≤ length row.now) × (length row.now ≤ 8192) × (k ≤ length clause.now) × (length clause.now ≤ 256) × (length words.old ≡ WORDS) × Valids row.now × Valids clause.now }
+fn build(words: &mut [u32; WORDS], row: &[u32], m: usize, clause: &[u32], k: usize) -> usize
+    requires { (m ≤ length row.now) × (length row.now ≤ 8192) × (k ≤ length clause.now) × (length clause.now ≤ 256) × Valids row.now × Valids clause.now }
     ensures { Built words.old row.now m clause.now k words.new result }
 {
     let b = picking::append(words, m + k, &clause[k..], 0);
@@ -44,15 +47,15 @@ fn build(words: &mut [u32], row: &[u32], m: usize, clause: &[u32], k: usize) -> 
 
 // What stands in `words` from s to n, under the solution of the first p, put into `out` from `at` on: how many words, or FULL where they are over 4,096.
 fn instance(
-    words: &[u32],
+    words: &[u32; WORDS],
     p: usize,
     s: usize,
     n: usize,
-    rows: &mut [u16],
-    out: &mut [u32],
+    rows: &mut [u16; CELLS],
+    out: &mut [u32; OUT],
     at: usize,
 ) -> usize
-    requires store { Store words.now rows.old out.old × (p ≤ n) × (s ≤ n) × (n ≤ WORDS) × (at ≤ 4096) }
+    requires cuts { (p ≤ n) × (s ≤ n) × (n ≤ WORDS) × (at ≤ 4096) }
     requires fits { Fits NAMES (take n words.now) × SolvedIn (take p words.now) rows.old }
     ensures written { Wrote NAMES out.old at (apply (solution_in (take p words.now) rows.old) (nodes (take (n - s) (drop s words.now)))) out.new result }
     ensures kept { Only (STACK ∷ []) rows.old rows.new }
@@ -81,11 +84,11 @@ pub fn apply(
     row: &[u32],
     clause: &[u32],
     cut: Cut,
-    words: &mut [u32],
-    rows: &mut [u16],
-    out: &mut [u32],
+    words: &mut [u32; WORDS],
+    rows: &mut [u16; CELLS],
+    out: &mut [u32; OUT],
 ) -> Sizes
-    requires { Staged row.now clause.now cut × Store words.old rows.old out.old × Matched (take cut.first row.now) (take cut.head clause.now) words.old rows.old }
+    requires { Staged row.now clause.now cut × Matched (take cut.first row.now) (take cut.head clause.now) words.old rows.old }
     ensures { (f : Expr) (g a : Goal) (c : Clause) → Stage row.now clause.now cut f g a c → Applied f g a c cut.formulas out.new result }
 {
     let all = build(words, row, cut.first, clause, cut.head);

@@ -4,7 +4,7 @@
 ghost use Rattle.std.specs.Prelude.{◌≡◌, List, ◌∷◌, ℕ, ◌+◌, ◌≤◌, length, take};
 ghost use Rattle.terms.specs.Node.{Expr};
 ghost use Rattle.search.specs.Next.{Clause, Book, Goal};
-ghost use Rattle.words.specs.Columns.{CELLS, WORDS};
+ghost use Rattle.words.specs.Columns.{WORDS};
 ghost use Rattle.words.specs.Held.{ClauseIn, BookOn};
 ghost use Rattle.heapgoals.specs.Holding.{Holds};
 ghost use Rattle.heapgoals.specs.HoldLaws.{Fore};
@@ -19,6 +19,7 @@ use matching::fitting::{Fitted, fit};
 use matching::unifying::Trial;
 use picking::append;
 use words::lists::{find, find_next};
+use words::rows::CELLS;
 use words::shelf::{HEAD, START, clauses, entry};
 use words::word;
 
@@ -48,8 +49,8 @@ fn begun(s: Standing) -> Trial
 }
 
 // What a trial has bound is not bound any more.
-pub fn release(cells: &mut [u16], rows: &[u16], base: usize, count: usize)
-    requires { (length cells.old ≡ 8256) × (length rows.now ≡ CELLS) × (base ≤ 8192) × ((before : List ℕ) × Undoable before cells.old rows.now base count) }
+pub fn release(cells: &mut [u16], rows: &[u16; CELLS], base: usize, count: usize)
+    requires { (length cells.old ≡ 8256) × (base ≤ 8192) × ((before : List ℕ) × Undoable before cells.old rows.now base count) }
     ensures { (before : List ℕ) → Undoable before cells.old rows.now base count → cells.new ≡ before }
 {
     undo(cells, &rows[16512..24960], count);
@@ -59,12 +60,12 @@ pub fn release(cells: &mut [u16], rows: &[u16], base: usize, count: usize)
 fn try_rows(
     heap: &[u32],
     cells: &mut [u16],
-    rows: &mut [u16],
+    rows: &mut [u16; CELLS],
     levels: &mut [u16],
     stack: &mut [u16],
     s: Standing,
 ) -> Attempt
-    requires { IsSetUp heap.now cells.old s × (length rows.old ≡ CELLS) × (length levels.old ≡ 1028) × (length stack.old ≡ 387) }
+    requires { IsSetUp heap.now cells.old s × (length levels.old ≡ 1028) × (length stack.old ≡ 387) }
     ensures attempted { Attempted heap.now cells.old s cells.new rows.new result }
     ensures levels { Fore levels.old levels.new }
 {
@@ -97,12 +98,12 @@ fn try_clause(
     head: usize,
     words: &mut [u32],
     cells: &mut [u16],
-    rows: &mut [u16],
+    rows: &mut [u16; CELLS],
     levels: &mut [u16],
     stack: &mut [u16],
     s: Standing,
 ) -> Attempt
-    requires words_len_bound { (length words.old ≤ WORDS) × (s.top + 256 ≤ length words.old) × (s.base ≤ 8192) × (length rows.old ≡ CELLS) × (length stack.old ≡ 387) }
+    requires words_len_bound { (length words.old ≤ WORDS) × (s.top + 256 ≤ length words.old) × (s.base ≤ 8192) × (length stack.old ≡ 387) }
     requires by_index { ((f : Expr) × (g : Goal) × (a : Goal) × Holds words.old cells.old levels.old s (f ∷ g) a) × ((c : Clause) × (n : ℕ) × ClauseIn clause.now head n c) }
     ensures words { take s.top words.new ≡ take s.top words.old }
     ensures levels { Fore levels.old levels.new }
@@ -126,12 +127,12 @@ pub fn first_fit(
     shelf: &[u16],
     words: &mut [u32],
     cells: &mut [u16],
-    rows: &mut [u16],
+    rows: &mut [u16; CELLS],
     levels: &mut [u16],
     stack: &mut [u16],
     s: Standing,
 ) -> Found
-    requires words_len_bound { (length words.old ≤ WORDS) × (s.top + 256 ≤ length words.old) × (s.base ≤ 8192) × (length rows.old ≡ CELLS) × (length stack.old ≡ 387) }
+    requires words_len_bound { (length words.old ≤ WORDS) × (s.top + 256 ≤ length words.old) × (s.base ≤ 8192) × (length stack.old ≡ 387) }
     requires holds { ((P : Book) × BookOn book.now shelf.now P) × ((f : Expr) × (g : Goal) × (a : Goal) × Holds words.old cells.old levels.old s (f ∷ g) a) }
     ensures words { take s.top words.new ≡ take s.top words.old }
     ensures levels { Fore levels.old levels.new }

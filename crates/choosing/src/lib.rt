@@ -5,13 +5,13 @@ ghost use Rattle.std.specs.Prelude.{[], ◌∷◌, ℕ, ◌<◌, ◌≤◌, leng
 ghost use Rattle.terms.specs.Node.{Expr};
 ghost use Rattle.search.specs.Next.{Book};
 ghost use Rattle.words.specs.Held.{GoalIn, BookOn};
-ghost use Rattle.picking.specs.Picking.{Bench, head_at, Matched, Picked};
+ghost use Rattle.picking.specs.Picking.{head_at, Matched, Picked};
 
 use picking::{argue, conclude, set_up};
 use words::lists::{find, find_next};
-use words::rows::{END, cell};
+use words::rows::{CELLS, END, cell};
 use words::shelf::clauses;
-use words::{arity, word};
+use words::{WORDS, arity, word};
 
 // The first clause from the number `from` on whose head unifies with the formula; how many clauses there are where there is none.
 // "The trial of one head stops at its first clash": most heads that clash cost a comparison or two, and those of other predicates none but on the same
@@ -22,10 +22,10 @@ pub fn pick(
     book: &[u32],
     shelf: &[u16],
     from: usize,
-    words: &mut [u32],
-    rows: &mut [u16],
+    words: &mut [u32; WORDS],
+    rows: &mut [u16; CELLS],
 ) -> usize
-    requires { Bench words.old rows.old × ((f : Expr) × GoalIn formula.now 1 (f ∷ [])) × ((P : Book) × BookOn book.now shelf.now P × (from ≤ length P)) }
+    requires { ((f : Expr) × GoalIn formula.now 1 (f ∷ [])) × ((P : Book) × BookOn book.now shelf.now P × (from ≤ length P)) }
     ensures { (f : Expr) (P : Book) → GoalIn formula.now 1 (f ∷ []) → BookOn book.now shelf.now P → Picked f P from result × (result < length P → Matched formula.now (head_at book.now shelf.now (length P) result) words.new rows.new) }
 {
     let n = clauses(shelf);

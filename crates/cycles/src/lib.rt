@@ -3,7 +3,7 @@
 
 ghost use Rattle.std.specs.Prelude.{◌≡◌, [], ◌∷◌, ◌<◌, ◌≤◌, length, get_or};
 ghost use Rattle.words.specs.Word.{Valids};
-ghost use Rattle.words.specs.Columns.{ROWS, CELLS, Only, LEFT, RIGHT, RANK};
+ghost use Rattle.words.specs.Columns.{ROWS, Only, LEFT, RIGHT, RANK};
 ghost use Rattle.positions.specs.Classes.{Grouped};
 ghost use Rattle.positions.specs.Ranking.{Settled};
 ghost use Rattle.positions.specs.Diving.{Searched, Opened};
@@ -11,12 +11,12 @@ ghost use Rattle.positions.specs.Tables.{ends, ups, picks, ranks, Search, Found}
 
 use positions::CLASH;
 use positions::reading::find;
-use words::rows::{END, LEFT, PICK, RANK, RIGHT, UP, cell, put};
+use words::rows::{CELLS, END, LEFT, PICK, RANK, RIGHT, UP, cell, put};
 use words::{arity, word};
 
 // The class of the first argument at x that has no rank, or the number of words where each has one.
-fn lacking(words: &[u32], rows: &[u16], x: usize) -> usize
-    requires { (length rows.now ≡ CELLS) × (length words.now ≤ ROWS) × Searched words.now (ends words.now rows.now) (ups words.now rows.now) (ranks words.now rows.now) × (x < length words.now) }
+fn lacking(words: &[u32], rows: &[u16; CELLS], x: usize) -> usize
+    requires { (length words.now ≤ ROWS) × Searched words.now (ends words.now rows.now) (ups words.now rows.now) (ranks words.now rows.now) × (x < length words.now) }
     ensures { Opened words.now (ends words.now rows.now) (ups words.now rows.now) (ranks words.now rows.now) x result }
 {
     let n = words.len();
@@ -37,8 +37,8 @@ fn lacking(words: &[u32], rows: &[u16], x: usize) -> usize
 
 // Ranks for `from` and all that it reaches, from `stamp` on, by a search with a stack; the next rank, or CLASH where the search comes back to the stack.
 // LEFT is the stack, and RIGHT has the places on it, from 1.
-fn dive(words: &[u32], rows: &mut [u16], from: usize, stamp: usize) -> usize
-    requires { (length rows.old ≡ CELLS) × Search words.now rows.old stamp × (from < length words.now) × (get_or (ups words.now rows.old) from 0 ≡ from) × (get_or (ranks words.now rows.old) from 0 ≡ 0) }
+fn dive(words: &[u32], rows: &mut [u16; CELLS], from: usize, stamp: usize) -> usize
+    requires { Search words.now rows.old stamp × (from < length words.now) × (get_or (ups words.now rows.old) from 0 ≡ from) × (get_or (ranks words.now rows.old) from 0 ≡ 0) }
     ensures { Found words.now rows.old from result rows.new × Only (LEFT ∷ RIGHT ∷ RANK ∷ []) rows.old rows.new }
 {
     let n = words.len();
@@ -69,8 +69,8 @@ fn dive(words: &[u32], rows: &mut [u16], from: usize, stamp: usize) -> usize
 }
 
 // The same for r, where r is a root that has no rank yet.
-fn visit(words: &[u32], rows: &mut [u16], r: usize, stamp: usize) -> usize
-    requires { (length rows.old ≡ CELLS) × Search words.now rows.old stamp × (r < length words.now) }
+fn visit(words: &[u32], rows: &mut [u16; CELLS], r: usize, stamp: usize) -> usize
+    requires { Search words.now rows.old stamp × (r < length words.now) }
     ensures { Found words.now rows.old r result rows.new × Only (LEFT ∷ RIGHT ∷ RANK ∷ []) rows.old rows.new }
 {
     let u = cell(rows, UP, r);
@@ -85,8 +85,8 @@ fn visit(words: &[u32], rows: &mut [u16], r: usize, stamp: usize) -> usize
 }
 
 // Ranks for the roots, above the roots of their arguments; false where there is a cycle.
-pub fn settle(words: &[u32], rows: &mut [u16]) -> bool
-    requires { (length rows.old ≡ CELLS) × Search words.now rows.old 1 }
+pub fn settle(words: &[u32], rows: &mut [u16; CELLS]) -> bool
+    requires { Search words.now rows.old 1 }
     ensures { Settled words.now (ends words.now rows.old) (ups words.now rows.old) (picks words.now rows.old) (ranks words.now rows.new) result × Only (LEFT ∷ RIGHT ∷ RANK ∷ []) rows.old rows.new }
 {
     let mut s: usize = 1;

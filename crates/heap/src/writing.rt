@@ -1,6 +1,5 @@
 // What rows stand for written out as words, with variables numbered from 0 by first appearance.
 ghost use Rattle.std.specs.Prelude.{◌≡◌, List, ℕ, ◌+◌, ◌<◌, ◌≤◌, length};
-ghost use Rattle.words.specs.Columns.{CELLS};
 ghost use Rattle.numbering.specs.Naming.{table, back, spare, Table};
 ghost use Rattle.words.specs.Word.{Valids};
 ghost use Rattle.heap.specs.Heap.{Whole, Made};
@@ -10,6 +9,7 @@ ghost use Rattle.heap.specs.Writing.{Copied, Written};
 use crate::SYMBOL;
 use crate::walking::{DEEPEST, Walk, next, settled};
 use numbering::name;
+use words::rows::CELLS;
 use words::{arity, word};
 
 // How many words are written, and how many variables have a number.
@@ -64,7 +64,7 @@ pub fn write(
     heap: &[u32],
     cells: &[u16],
     levels: &mut [u16],
-    rows: &mut [u16],
+    rows: &mut [u16; CELLS],
     out: &mut [u32],
     pen: Pen,
     from: Walk,
@@ -72,7 +72,7 @@ pub fn write(
 ) -> Pen
     requires made { Made heap.now cells.now × Ready heap.now levels.old from × (from.depth ≡ 0) }
     requires by_index { (seen : List ℕ) × Table seen (table rows.old) (back rows.old) pen.count }
-    requires cells_len_bound { (length cells.now ≤ 8256) × (length rows.old ≡ CELLS) × (514 ≤ length levels.old) }
+    requires cells_len_bound { (length cells.now ≤ 8256) × (514 ≤ length levels.old) }
     requires count_le_at { (pen.count ≤ pen.at) × (pen.at ≤ limit) × (limit ≤ pen.at + 4096) × (limit ≤ 8192) × (limit ≤ length out.old) }
     ensures written { Written heap.now cells.now rows.old out.old pen from limit rows.new out.new result }
     ensures spare { spare rows.new ≡ spare rows.old }

@@ -4,7 +4,6 @@ ghost use Rattle.terms.specs.Node.{Expr};
 ghost use Rattle.terms.specs.Subst.{Subst};
 ghost use Rattle.search.specs.Next.{Goal};
 ghost use Rattle.words.specs.Word.{Valids, nodes};
-ghost use Rattle.words.specs.Columns.{CELLS};
 ghost use Rattle.words.specs.Held.{RowIn};
 ghost use Rattle.numbering.specs.Naming.{table, back, spare, Table};
 ghost use Rattle.heap.specs.Heap.{Made, Whole, Solved};
@@ -17,7 +16,8 @@ use crate::Standing;
 use crate::telling::differs;
 use heap::walking::Walk;
 use heap::writing::{Pen, Run, symbols, write};
-use words::get;
+use words::rows::CELLS;
+use words::{OUT, get};
 
 // Whether the goal's first formula is certainly not the first `kept` words of `saved`.
 pub fn is_other(
@@ -52,15 +52,15 @@ fn put(
     heap: &[u32],
     cells: &[u16],
     levels: &mut [u16],
-    rows: &mut [u16],
-    out: &mut [u32],
+    rows: &mut [u16; CELLS],
+    out: &mut [u32; OUT],
     pen: Pen,
     w: Walk,
     limit: usize,
 ) -> Pen
     requires made { Made heap.now cells.now × Whole heap.now w.due w.at × (w.depth ≡ 0) }
     requires by_index { (seen : List ℕ) × Table seen (table rows.old) (back rows.old) pen.count }
-    requires cells_len { (length cells.now ≡ 8256) × (length levels.old ≡ 1028) × (length rows.old ≡ CELLS) × (length out.old ≡ 8192) }
+    requires cells_len { (length cells.now ≡ 8256) × (length levels.old ≡ 1028) }
     requires count_le_at { (pen.count ≤ pen.at) × (pen.at ≤ limit) × (limit ≤ pen.at + 4096) × (limit ≤ 8192) }
     ensures laid { Laid heap.now cells.now rows.old out.old pen (visited heap.now w.due w.at) limit rows.new out.new result }
     ensures fore { Fore levels.old levels.new }
@@ -83,14 +83,14 @@ fn write_levels(
     heap: &[u32],
     cells: &[u16],
     levels: &mut [u16],
-    rows: &mut [u16],
-    out: &mut [u32],
+    rows: &mut [u16; CELLS],
+    out: &mut [u32; OUT],
     first: Pen,
     depth: usize,
 ) -> Pen
     requires made { Made heap.now cells.now × ((θ : Subst) × Solved heap.now cells.now θ) × Levels heap.now levels.old depth × (depth ≤ 256) }
     requires by_index { (seen : List ℕ) × Table seen (table rows.old) (back rows.old) first.count }
-    requires cells_len { (length cells.now ≡ 8256) × (length levels.old ≡ 1028) × (length rows.old ≡ CELLS) × (length out.old ≡ 8192) }
+    requires cells_len { (length cells.now ≡ 8256) × (length levels.old ≡ 1028) }
     requires count_le_at { (first.count ≤ first.at) × (first.at ≤ 4096) }
     ensures laid { Laid heap.now cells.now rows.old out.old first (λ θ. behind heap.now levels.old θ depth) 4096 rows.new out.new result }
     ensures fore { Fore levels.old levels.new }
@@ -117,12 +117,11 @@ fn write_goal(
     heap: &[u32],
     cells: &[u16],
     levels: &mut [u16],
-    rows: &mut [u16],
-    out: &mut [u32],
+    rows: &mut [u16; CELLS],
+    out: &mut [u32; OUT],
     s: Standing,
 ) -> Pen
     requires placed { Placed heap.now cells.now levels.old s }
-    requires rows_len { (length rows.old ≡ CELLS) × (length out.old ≡ 8192) }
     ensures laid { Laid heap.now cells.now rows.old out.old (record { at = 0; count = 0 }) (goal_part heap.now levels.old s) 4096 rows.new out.new result }
     ensures fore { Fore levels.old levels.new }
     ensures spare { spare rows.new ≡ spare rows.old }
@@ -160,12 +159,11 @@ fn write_rows(
     heap: &[u32],
     cells: &[u16],
     levels: &mut [u16],
-    rows: &mut [u16],
-    out: &mut [u32],
+    rows: &mut [u16; CELLS],
+    out: &mut [u32; OUT],
     s: Standing,
 ) -> Row
     requires placed { Placed heap.now cells.now levels.old s }
-    requires rows_len { (length rows.old ≡ CELLS) × (length out.old ≡ 8192) }
     ensures row { result.words ≤ 4096 → (words : List ℕ) (g a : Goal) → Holds words cells.now levels.old s g a → heap.now ≡ used words s → RowIn (take (result.words + result.answer) out.new) result.words s.formulas g a × (result.words + result.answer ≤ 8192) }
     ensures fore { Fore levels.old levels.new }
     ensures spare { spare rows.new ≡ spare rows.old }
@@ -195,12 +193,11 @@ pub fn write_out(
     words: &[u32],
     cells: &[u16],
     levels: &mut [u16],
-    rows: &mut [u16],
-    out: &mut [u32],
+    rows: &mut [u16; CELLS],
+    out: &mut [u32; OUT],
     s: Standing,
 ) -> Row
     requires holds { (g : Goal) × (a : Goal) × Holds words.now cells.now levels.old s g a }
-    requires rows_len { (length rows.old ≡ CELLS) × (length out.old ≡ 8192) }
     ensures row { result.words ≤ 4096 → (g a : Goal) → Holds words.now cells.now levels.old s g a → RowIn (take (result.words + result.answer) out.new) result.words s.formulas g a × (result.words + result.answer ≤ 8192) }
     ensures held { (g a : Goal) → Holds words.now cells.now levels.old s g a → Holds words.now cells.now levels.new s g a }
     ensures spare { spare rows.new ≡ spare rows.old }
@@ -215,12 +212,11 @@ pub fn write_first(
     words: &[u32],
     cells: &[u16],
     levels: &mut [u16],
-    rows: &mut [u16],
-    out: &mut [u32],
+    rows: &mut [u16; CELLS],
+    out: &mut [u32; OUT],
     s: Standing,
 ) -> usize
     requires holds { (f : Expr) × (g : Goal) × (a : Goal) × Holds words.now cells.now levels.old s (f ∷ g) a }
-    requires rows_len { (length rows.old ≡ CELLS) × (length out.old ≡ 8192) }
     ensures first { result ≤ 4096 → (f : Expr) (g a : Goal) → Holds words.now cells.now levels.old s (f ∷ g) a → Lead f out.new result }
     ensures held { (g a : Goal) → Holds words.now cells.now levels.old s g a → Holds words.now cells.now levels.new s g a }
     ensures spare { spare rows.new ≡ spare rows.old }

@@ -3,7 +3,7 @@
 
 ghost use Rattle.std.specs.Prelude.{◌≡◌, [], ◌∷◌, ◌<◌, ◌≤◌, length, get_or};
 ghost use Rattle.words.specs.Word.{arity_of};
-ghost use Rattle.words.specs.Columns.{ROWS, CELLS, column, Only, UP, PICK, LEFT, RIGHT};
+ghost use Rattle.words.specs.Columns.{ROWS, column, Only, UP, PICK, LEFT, RIGHT};
 ghost use Rattle.positions.specs.Words.{Ends};
 ghost use Rattle.positions.specs.Classes.{root, Down};
 ghost use Rattle.positions.specs.Steps.{Flat, Ready, Args, Outcome};
@@ -11,12 +11,12 @@ ghost use Rattle.positions.specs.Closing.{Closing};
 ghost use Rattle.positions.specs.Tables.{ends, ups, picks, state_in, ClosedIn};
 
 use positions::CLASH;
-use words::rows::{END, LEFT, PICK, RIGHT, UP, cell, put};
+use words::rows::{CELLS, END, LEFT, PICK, RIGHT, UP, cell, put};
 use words::{arity, word};
 
 // The root of a position's class, of n positions; the way to it is halved.
-fn seek(rows: &mut [u16], n: usize, start: usize) -> usize
-    requires { (length rows.old ≡ CELLS) × (n ≤ ROWS) × (start < n) × Down (column UP n rows.old) }
+fn seek(rows: &mut [u16; CELLS], n: usize, start: usize) -> usize
+    requires { (n ≤ ROWS) × (start < n) × Down (column UP n rows.old) }
     ensures { (result ≡ root (column UP n rows.old) start) × Flat (column UP n rows.old) (column UP n rows.new) × Only (UP ∷ []) rows.old rows.new }
 {
     let mut p = start;
@@ -31,8 +31,8 @@ fn seek(rows: &mut [u16], n: usize, start: usize) -> usize
 }
 
 // Each of n positions points to its root, so that the search for cycles finds it at once.
-pub fn flatten(rows: &mut [u16], n: usize)
-    requires { (length rows.old ≡ CELLS) × (n ≤ ROWS) × Down (column UP n rows.old) }
+pub fn flatten(rows: &mut [u16; CELLS], n: usize)
+    requires { (n ≤ ROWS) × Down (column UP n rows.old) }
     ensures { Flat (column UP n rows.old) (column UP n rows.new) × Only (UP ∷ []) rows.old rows.new }
 {
     let mut p = 0;
@@ -45,8 +45,8 @@ pub fn flatten(rows: &mut [u16], n: usize)
 }
 
 // Two roots become one, the smaller. A class keeps a position that is no variable's where it has one; where both have, they are a pair to be spread.
-fn link(words: &[u32], rows: &mut [u16], tail: usize, a: usize, b: usize) -> usize
-    requires { (length rows.old ≡ CELLS) × Ready words.now (state_in words.now rows.old tail) × (a < b) × (b < length words.now) × (get_or (ups words.now rows.old) a 0 ≡ a) × (get_or (ups words.now rows.old) b 0 ≡ b) }
+fn link(words: &[u32], rows: &mut [u16; CELLS], tail: usize, a: usize, b: usize) -> usize
+    requires { Ready words.now (state_in words.now rows.old tail) × (a < b) × (b < length words.now) × (get_or (ups words.now rows.old) a 0 ≡ a) × (get_or (ups words.now rows.old) b 0 ≡ b) }
     ensures { Outcome words.now (state_in words.now rows.old tail) (λ f. f a ≡ f b) (state_in words.now rows.new result) × Only (UP ∷ PICK ∷ LEFT ∷ RIGHT ∷ []) rows.old rows.new }
 {
     let x = cell(rows, PICK, a);
@@ -72,8 +72,8 @@ fn link(words: &[u32], rows: &mut [u16], tail: usize, a: usize, b: usize) -> usi
 }
 
 // The classes of two positions become one; the number of pairs that wait, or CLASH where two words differ.
-fn join(words: &[u32], rows: &mut [u16], tail: usize, p: usize, q: usize) -> usize
-    requires { (length rows.old ≡ CELLS) × Ready words.now (state_in words.now rows.old tail) × (p < length words.now) × (q < length words.now) }
+fn join(words: &[u32], rows: &mut [u16; CELLS], tail: usize, p: usize, q: usize) -> usize
+    requires { Ready words.now (state_in words.now rows.old tail) × (p < length words.now) × (q < length words.now) }
     ensures { Outcome words.now (state_in words.now rows.old tail) (λ f. f p ≡ f q) (state_in words.now rows.new result) × Only (UP ∷ PICK ∷ LEFT ∷ RIGHT ∷ []) rows.old rows.new }
 {
     let n = words.len();
@@ -89,8 +89,8 @@ fn join(words: &[u32], rows: &mut [u16], tail: usize, p: usize, q: usize) -> usi
 }
 
 // The arguments at x and y are joined one by one.
-fn spread(words: &[u32], rows: &mut [u16], tail: usize, x: usize, y: usize) -> usize
-    requires { (length rows.old ≡ CELLS) × Ready words.now (state_in words.now rows.old tail) × Ends words.now (ends words.now rows.old) × (x < length words.now) × (y < length words.now) × (get_or words.now x 0 ≡ get_or words.now y 0) }
+fn spread(words: &[u32], rows: &mut [u16; CELLS], tail: usize, x: usize, y: usize) -> usize
+    requires { Ready words.now (state_in words.now rows.old tail) × Ends words.now (ends words.now rows.old) × (x < length words.now) × (y < length words.now) × (get_or words.now x 0 ≡ get_or words.now y 0) }
     ensures { Outcome words.now (state_in words.now rows.old tail) (λ f. Args f (ends words.now rows.old) (arity_of (get_or words.now x 0)) x y) (state_in words.now rows.new result) × Only (UP ∷ PICK ∷ LEFT ∷ RIGHT ∷ []) rows.old rows.new }
 {
     let k = arity(word(words, x));
@@ -111,8 +111,8 @@ fn spread(words: &[u32], rows: &mut [u16], tail: usize, x: usize, y: usize) -> u
 }
 
 // All that follows from the equality of the terms at x and y.
-pub fn close(words: &[u32], rows: &mut [u16], x: usize, y: usize) -> bool
-    requires { (length rows.old ≡ CELLS) × ClosedIn words.now rows.old × (x < length words.now) × (y < length words.now) }
+pub fn close(words: &[u32], rows: &mut [u16; CELLS], x: usize, y: usize) -> bool
+    requires { ClosedIn words.now rows.old × (x < length words.now) × (y < length words.now) }
     ensures { Closing words.now (ends words.now rows.old) (ups words.now rows.old) x y (ups words.now rows.new) (picks words.now rows.new) result × Only (UP ∷ PICK ∷ LEFT ∷ RIGHT ∷ []) rows.old rows.new }
 {
     let mut tail = join(words, rows, 0, x, y);

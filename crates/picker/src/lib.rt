@@ -10,7 +10,6 @@ ghost use Rattle.search.specs.Furthest.{no_figures};
 ghost use Rattle.words.specs.Held.{GoalIn, BookOn};
 ghost use Rattle.format.specs.Decode.{book_of, goal_of};
 ghost use Rattle.areas.specs.Rooms.{Rooms};
-ghost use Rattle.picking.specs.Picking.{Bench};
 ghost use Rattle.outcomes.specs.Outcome.{pick_refused, picked_as, pick_said, pick_answer};
 ghost use Rattle.outcomes.specs.Refusals.{Good};
 
@@ -18,6 +17,8 @@ use areas::{open_book, open_query};
 use outcomes::Picked;
 use outcomes::admit::{Admitted, admit};
 use resolve::{Choice, choose};
+use words::WORDS;
+use words::rows::CELLS;
 
 fn refused(a: Admitted) -> Picked
     ensures { result ≡ pick_refused a }
@@ -66,10 +67,10 @@ fn from_formula(
     book: &[u32],
     shelf: &[u16],
     goal: &[u32],
-    words: &mut [u32],
-    rows: &mut [u16],
+    words: &mut [u32; WORDS],
+    rows: &mut [u16; CELLS],
 ) -> Picked
-    requires { Bench words.old rows.old × ((P : Book) × BookOn book.now shelf.now P) × ((f : Expr) × (g : Goal) × (n : ℕ) × GoalIn goal.now n (f ∷ g)) }
+    requires { ((P : Book) × BookOn book.now shelf.now P) × ((f : Expr) × (g : Goal) × (n : ℕ) × GoalIn goal.now n (f ∷ g)) }
     ensures { (P : Book) (f : Expr) (g : Goal) (n : ℕ) → BookOn book.now shelf.now P → GoalIn goal.now n (f ∷ g) → result ≡ pick_said P (f ∷ g) (Pick.pick P (f ∷ g)) }
 {
     match choose(book, shelf, goal, words, rows) {
@@ -87,8 +88,8 @@ fn from_goal(book: &[u32], shelf: &[u16], goal: &[u32], formulas: usize) -> Pick
     if formulas == 0 {
         return picked(20, 0);
     }
-    let mut words = [0u32; 8448];
-    let mut rows = [0u16; 30464];
+    let mut words = [0u32; WORDS];
+    let mut rows = [0u16; CELLS];
     from_formula(book, shelf, goal, &mut words, &mut rows)
 }
 

@@ -2,9 +2,8 @@
 // ends, and goal and answer are written out.
 #![tactic(auto)]
 
-ghost use Rattle.std.specs.Prelude.{ℕ, ◌+◌, ◌≤◌, ◌≡◌, List, length, take};
+ghost use Rattle.std.specs.Prelude.{ℕ, ◌+◌, ◌≤◌, ◌≡◌, List, take};
 ghost use Rattle.search.specs.Next.{Book, Goal};
-ghost use Rattle.words.specs.Columns.{CELLS};
 ghost use Rattle.words.specs.Held.{BookOn};
 ghost use Rattle.matching.specs.TrialLaws.{Free};
 ghost use Rattle.states.specs.Visiting.{Visits};
@@ -18,6 +17,8 @@ use heapgoals::{Sides, Standing, clear, stand};
 use states::Place;
 use states::leftmost::{copy_words, keep};
 use treads::{Tread, take_step};
+use words::OUT;
+use words::rows::CELLS;
 
 pub mod looking; // what is looked at before a step
 
@@ -68,13 +69,13 @@ fn finish(
     words: &[u32],
     cells: &mut [u16],
     levels: &mut [u16],
-    rows: &mut [u16],
-    out: &mut [u32],
+    rows: &mut [u16; CELLS],
+    out: &mut [u32; OUT],
     s: Standing,
     x: Along,
     since: u32,
 ) -> Ridden
-    requires { (length rows.old ≡ CELLS) × (length out.old ≡ 8192) × (since ≤ x.detector.step) × Something words.now cells.old levels.old s }
+    requires { (since ≤ x.detector.step) × Something words.now cells.old levels.old s }
     ensures went { (P : Book) (q : Goal) (saved : List ℕ) (g a : Goal) → Visits P q x.budget saved x.detector x.kept g a → Holds words.now cells.old levels.old s g a → Went P q x.budget since saved out.new result }
     ensures free { Free cells.new }
 {
@@ -103,9 +104,9 @@ fn go_on(
     shelf: &[u16],
     words: &mut [u32],
     cells: &mut [u16],
-    rows: &mut [u16],
+    rows: &mut [u16; CELLS],
     saved: &mut [u32],
-    out: &mut [u32],
+    out: &mut [u32; OUT],
     start: Start,
 ) -> Ridden
     requires lent { Lent words.old cells.old rows.old saved.old out.old × Free cells.old }
@@ -149,9 +150,9 @@ pub fn ride(
     shelf: &[u16],
     words: &mut [u32],
     cells: &mut [u16],
-    rows: &mut [u16],
+    rows: &mut [u16; CELLS],
     saved: &mut [u32],
-    out: &mut [u32],
+    out: &mut [u32; OUT],
     start: Start,
 ) -> Ridden
     requires lent { Lent words.old cells.old rows.old saved.old out.old × Free cells.old }

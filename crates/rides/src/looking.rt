@@ -2,13 +2,14 @@
 ghost use Rattle.std.specs.Prelude.{◌≤◌, ◌<◌, ◌≡◌, false, ◌∷◌, length};
 ghost use Rattle.terms.specs.Node.{Expr};
 ghost use Rattle.search.specs.Next.{Goal};
-ghost use Rattle.words.specs.Columns.{CELLS};
 ghost use Rattle.heapgoals.specs.Holding.{Holds};
 ghost use Rattle.rides.specs.Riding.{ApartFrom, Drawn, ForeseenFrom, KeepsSome, Something, onward_of};
 
 use detector::Detector;
 use heapgoals::Standing;
 use heapgoals::writing::{is_other, write_first};
+use words::OUT;
+use words::rows::CELLS;
 
 // The detector, how many words are saved, and the budget.
 #[derive(Clone, Copy)]
@@ -55,12 +56,12 @@ fn draw(
     words: &[u32],
     cells: &[u16],
     levels: &mut [u16],
-    rows: &mut [u16],
-    out: &mut [u32],
+    rows: &mut [u16; CELLS],
+    out: &mut [u32; OUT],
     s: Standing,
     due: bool,
 ) -> usize
-    requires { (length rows.old ≡ CELLS) × (length out.old ≡ 8192) × ((f : Expr) × (g : Goal) × (a : Goal) × Holds words.now cells.now levels.old s (f ∷ g) a) }
+    requires { ((f : Expr) × (g : Goal) × (a : Goal) × Holds words.now cells.now levels.old s (f ∷ g) a) }
     ensures drawn { result ≤ 4096 → (f : Expr) (g a : Goal) → Holds words.now cells.now levels.old s (f ∷ g) a → Drawn f out.new result due }
     ensures held { (g a : Goal) → Holds words.now cells.now levels.old s g a → Holds words.now cells.now levels.new s g a }
 {
@@ -74,13 +75,13 @@ pub fn look_ahead(
     words: &[u32],
     cells: &[u16],
     levels: &mut [u16],
-    rows: &mut [u16],
+    rows: &mut [u16; CELLS],
     saved: &[u32],
-    out: &mut [u32],
+    out: &mut [u32; OUT],
     s: Standing,
     x: Along,
 ) -> Ahead
-    requires { (length rows.old ≡ CELLS) × (length out.old ≡ 8192) × KeepsSome saved.now x.kept × Something words.now cells.now levels.old s }
+    requires { KeepsSome saved.now x.kept × Something words.now cells.now levels.old s }
     ensures foreseen { result.kept ≤ 4096 → (g a : Goal) → Holds words.now cells.now levels.old s g a → ForeseenFrom saved.now out.new x g result }
     ensures held { (g a : Goal) → Holds words.now cells.now levels.old s g a → Holds words.now cells.now levels.new s g a }
 {

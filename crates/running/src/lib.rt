@@ -3,7 +3,6 @@
 
 ghost use Rattle.std.specs.Prelude.{◌≡◌, ◌+◌, ◌*◌, ◌≤◌, min, length, take};
 ghost use Rattle.search.specs.Next.{Book, Goal};
-ghost use Rattle.words.specs.Columns.{CELLS, WORDS};
 ghost use Rattle.words.specs.Held.{BookOn};
 ghost use Rattle.format.specs.Decode.{book_of};
 ghost use Rattle.states.specs.States.{Ends};
@@ -18,14 +17,22 @@ use outcomes::Answer;
 use outcomes::admit::admit;
 use searching::{Query, search};
 use states::Ended;
+use words::rows::CELLS;
+use words::{OUT, WORDS};
 
 // The search from a goal, with storage for its steps.
-fn from_goal(book: &[u32], shelf: &[u16], goal: &mut [u32], rows: &mut [u16], query: Query) -> Ended
-    requires { (length goal.old ≡ WORDS) × (query.words + query.answer ≤ length goal.old) × ((P : Book) × BookOn book.now shelf.now P) × ((q : Goal) × Asked (take (query.words + query.answer) goal.old) query.words query.formulas q) × (length rows.old ≡ CELLS) }
+fn from_goal(
+    book: &[u32],
+    shelf: &[u16],
+    goal: &mut [u32; WORDS],
+    rows: &mut [u16; CELLS],
+    query: Query,
+) -> Ended
+    requires { (query.words + query.answer ≤ length goal.old) × ((P : Book) × BookOn book.now shelf.now P) × ((q : Goal) × Asked (take (query.words + query.answer) goal.old) query.words query.formulas q) }
     ensures { (P : Book) (q : Goal) → BookOn book.now shelf.now P → Asked (take (query.words + query.answer) goal.old) query.words query.formulas q → Ends P q query.budget goal.new result }
 {
     let mut saved = [0u32; 4096];
-    let mut out = [0u32; 8192];
+    let mut out = [0u32; OUT];
     search(book, shelf, goal, query, &mut saved, rows, &mut out)
 }
 
@@ -38,14 +45,14 @@ fn from_bytes(
     area: &mut [u8],
     answer: &mut [u8],
     words: &mut [u32],
-    rows: &mut [u16],
+    rows: &mut [u16; CELLS],
 ) -> Answer
     requires good { Good book.now query.now (min (length area.old) (length answer.old)) }
-    requires book_len_bound { (length book.now ≤ 3 * length words.old + 2) × (length rows.old ≡ CELLS) }
+    requires book_len_bound { length book.now ≤ 3 * length words.old + 2 }
     ensures { Leaves (book_of book.now) (closing book.now query.now budget) area.old answer.old result area.new answer.new }
 {
     let mut shelf = [0u16; 2308];
-    let mut goal = [0u32; 8448];
+    let mut goal = [0u32; WORDS];
     let clauses = open_book(book, words, &mut shelf);
     let opened = open_row(query, &mut goal);
     let used = 4 * clauses + 260;
@@ -75,10 +82,10 @@ fn from_short(
     budget: u32,
     area: &mut [u8],
     answer: &mut [u8],
-    rows: &mut [u16],
+    rows: &mut [u16; CELLS],
 ) -> Answer
     requires good { Good book.now query.now (min (length area.old) (length answer.old)) }
-    requires book_len_bound { (length book.now ≤ 9216) × (length rows.old ≡ CELLS) }
+    requires book_len_bound { length book.now ≤ 9216 }
     ensures { Leaves (book_of book.now) (closing book.now query.now budget) area.old answer.old result area.new answer.new }
 {
     let mut words = [0u32; 3072];
@@ -91,10 +98,9 @@ fn from_long(
     budget: u32,
     area: &mut [u8],
     answer: &mut [u8],
-    rows: &mut [u16],
+    rows: &mut [u16; CELLS],
 ) -> Answer
     requires good { Good book.now query.now (min (length area.old) (length answer.old)) }
-    requires rows_len { length rows.old ≡ CELLS }
     ensures { Leaves (book_of book.now) (closing book.now query.now budget) area.old answer.old result area.new answer.new }
 {
     let mut words = [0u32; 10922];
@@ -106,7 +112,7 @@ fn from_good(book: &[u8], query: &[u8], budget: u32, area: &mut [u8], answer: &m
     requires { Good book.now query.now (min (length area.old) (length answer.old)) }
     ensures { Leaves (book_of book.now) (closing book.now query.now budget) area.old answer.old result area.new answer.new }
 {
-    let mut rows = [0u16; 30464];
+    let mut rows = [0u16; CELLS];
     if book.len() <= 9216 {
         return from_short(book, query, budget, area, answer, &mut rows);
     }

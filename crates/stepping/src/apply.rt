@@ -7,7 +7,6 @@ ghost use Rattle.search.specs.Pick.{apply_by};
 ghost use Rattle.words.specs.Held.{GoalIn, BookOn};
 ghost use Rattle.format.specs.Decode.{book_of, goal_of};
 ghost use Rattle.areas.specs.Rooms.{Rooms};
-ghost use Rattle.applying.specs.Applying.{Store};
 ghost use Rattle.outcomes.specs.Outcome.{step_refused, apply_answer, apply_area};
 ghost use Rattle.outcomes.specs.Refusals.{Good};
 ghost use Rattle.outcomes.specs.Stepping.{Gives, no_step, one_step};
@@ -16,7 +15,9 @@ use areas::{open_book, open_query, put_goal};
 use outcomes::Stepped;
 use outcomes::admit::{Admitted, admit};
 use resolve::{Move, apply_number};
+use words::rows::CELLS;
 use words::shelf::clauses;
+use words::{OUT, WORDS};
 
 // "Codes 1 to 19 refuse the input .. and give steps, span, bytes and every count 0."
 fn refused(a: Admitted) -> Stepped
@@ -79,11 +80,10 @@ fn from_formula(
     goal: &[u32],
     call: Call,
     area: &mut [u8],
-    words: &mut [u32],
-    rows: &mut [u16],
-    out: &mut [u32],
+    words: &mut [u32; WORDS],
+    rows: &mut [u16; CELLS],
+    out: &mut [u32; OUT],
 ) -> Stepped
-    requires store { Store words.old rows.old out.old }
     requires in_bounds { (16387 ≤ length area.old) × ((P : Book) × BookOn book.now shelf.now P × (call.clause < length P)) × ((f : Expr) × (g : Goal) × GoalIn goal.now call.formulas (f ∷ g)) }
     ensures { (P : Book) (f : Expr) (g : Goal) → BookOn book.now shelf.now P → GoalIn goal.now call.formulas (f ∷ g) → Gives (apply_by P (f ∷ g) call.clause) area.old result area.new }
 {
@@ -119,9 +119,9 @@ fn from_goal(book: &[u32], shelf: &[u16], goal: &[u32], call: Call, area: &mut [
     if clauses(shelf) <= call.clause {
         return no_step(32);
     }
-    let mut words = [0u32; 8448];
-    let mut rows = [0u16; 30464];
-    let mut out = [0u32; 8192];
+    let mut words = [0u32; WORDS];
+    let mut rows = [0u16; CELLS];
+    let mut out = [0u32; OUT];
     from_formula(
         book, shelf, goal, call, area, &mut words, &mut rows, &mut out,
     )

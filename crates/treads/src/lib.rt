@@ -6,7 +6,7 @@ ghost use Rattle.std.specs.Prelude.{◌≡◌, true, List, ◌∷◌, ℕ, ◌+�
 ghost use Rattle.terms.specs.Node.{Expr};
 ghost use Rattle.search.specs.Next.{Clause, Book, Goal, clause_at};
 ghost use Rattle.words.specs.Word.{Valids};
-ghost use Rattle.words.specs.Columns.{CELLS, WORDS};
+ghost use Rattle.words.specs.Columns.{WORDS};
 ghost use Rattle.words.specs.Held.{Placed, BookOn};
 ghost use Rattle.heap.specs.Heap.{Whole};
 ghost use Rattle.heap.specs.Walking.{Levels};
@@ -25,6 +25,7 @@ use figures::figure_at;
 use heap::past;
 use heap::walking::{Walk, settled};
 use heapgoals::Standing;
+use words::rows::CELLS;
 use words::shelf::{BODY, HEAD, START, entry};
 
 pub mod sizing; // how large goal and answer are at most
@@ -85,14 +86,14 @@ pub enum Tread {
 fn go(
     heap: &[u32],
     cells: &[u16],
-    rows: &[u16],
+    rows: &[u16; CELLS],
     levels: &mut [u16],
     s: Standing,
     c: Span,
     count: usize,
     known: Option<Weight>,
 ) -> Tread
-    requires { ((book : List ℕ) × (words : List ℕ) × (before : List ℕ) × (f : Expr) × (g : Goal) × (a : Goal) × (d : Clause) × IsUnderWay book words before levels.old s c heap.now cells.now rows.now count f g a d) × (length rows.now ≡ CELLS) × (s.depth < 256) × Weighed heap.now cells.now s.base (trail rows.now) count known }
+    requires { ((book : List ℕ) × (words : List ℕ) × (before : List ℕ) × (f : Expr) × (g : Goal) × (a : Goal) × (d : Clause) × IsUnderWay book words before levels.old s c heap.now cells.now rows.now count f g a d) × (s.depth < 256) × Weighed heap.now cells.now s.base (trail rows.now) count known }
     ensures { Went levels.old s c heap.now cells.now rows.now count levels.new result }
 {
     let formulas = s.formulas - 1 + c.bodies;
@@ -188,12 +189,12 @@ pub fn take_step(
     shelf: &[u16],
     words: &mut [u32],
     cells: &mut [u16],
-    rows: &mut [u16],
+    rows: &mut [u16; CELLS],
     levels: &mut [u16],
     stack: &mut [u16],
     s: Standing,
 ) -> Tread
-    requires words_len_bound { (length words.old ≤ WORDS) × (length rows.old ≡ CELLS) × (length stack.old ≡ 1411) × Figured book.now shelf.now (drop 387 stack.old) }
+    requires words_len_bound { (length words.old ≤ WORDS) × (length stack.old ≡ 1411) × Figured book.now shelf.now (drop 387 stack.old) }
     requires book_on { (P : Book) × (f : Expr) × (g : Goal) × (a : Goal) × BookOn book.now shelf.now P × Holds words.old cells.old levels.old s (f ∷ g) a }
     ensures words { take s.top words.new ≡ take s.top words.old }
     ensures figured { Figured book.now shelf.now (drop 387 stack.new) }

@@ -2,7 +2,6 @@
 ghost use Rattle.std.specs.Prelude.{◌≡◌, ◌⊎◌, List, ℕ, ◌*◌, ◌≤◌, ◌<◌, length};
 ghost use Rattle.terms.specs.Node.{Expr};
 ghost use Rattle.search.specs.Next.{Clause, Goal};
-ghost use Rattle.words.specs.Columns.{CELLS};
 ghost use Rattle.bounds.specs.Sizing.{Weighed};
 ghost use Rattle.figures.specs.Figures.{first_of};
 ghost use Rattle.trials.specs.Trying.{trail};
@@ -13,6 +12,7 @@ ghost use Rattle.treads.specs.Adding.{span_words, Led, Adds, Often, Summed, Grow
 use bounds::{OVER, Weight, larger, size_of, weight_of};
 use figures::Figure;
 use heapgoals::Standing;
+use words::rows::CELLS;
 
 // Where a clause stands in the book, where its head ends, how many formulas its body has, and its figure.
 #[derive(Clone, Copy)]
@@ -178,14 +178,14 @@ fn grown_by(s: Standing, more: Added, grown: Weight, count: usize) -> Bounds
 pub fn sized(
     heap: &[u32],
     cells: &[u16],
-    rows: &[u16],
+    rows: &[u16; CELLS],
     levels: &mut [u16],
     s: Standing,
     c: Span,
     count: usize,
     known: Option<Weight>,
 ) -> Bounds
-    requires { ((book : List ℕ) × (words : List ℕ) × (before : List ℕ) × (f : Expr) × (g : Goal) × (a : Goal) × (d : Clause) × IsUnderWay book words before levels.old s c heap.now cells.now rows.now count f g a d) × (length rows.now ≡ CELLS) × Weighed heap.now cells.now s.base (trail rows.now) count known }
+    requires { ((book : List ℕ) × (words : List ℕ) × (before : List ℕ) × (f : Expr) × (g : Goal) × (a : Goal) × (d : Clause) × IsUnderWay book words before levels.old s c heap.now cells.now rows.now count f g a d) × Weighed heap.now cells.now s.base (trail rows.now) count known }
     ensures levels { Fore levels.old levels.new }
     ensures bounds { (result.nodes ≡ 65535 → ⊥) → (book words before : List ℕ) (f : Expr) (g a : Goal) (d : Clause) → IsUnderWay book words before levels.new s c heap.now cells.now rows.now count f g a d → Bounded heap.now cells.now levels.new s c result }
 {

@@ -2,7 +2,6 @@
 #![tactic(auto)]
 
 ghost use Rattle.std.specs.Prelude.{◌≡◌, ℕ, ◌<◌, ◌≤◌, length, take};
-ghost use Rattle.words.specs.Columns.{CELLS, WORDS};
 ghost use Rattle.heap.specs.Heap.{Made, Whole};
 ghost use Rattle.matching.specs.Unifying.{Low};
 ghost use Rattle.matching.specs.TrialLaws.{Free};
@@ -14,8 +13,9 @@ ghost use Rattle.trials.specs.Trying.{Attempted, Fronted, clause_words, Tested, 
 use matching::unifying::{Trial, Tried, unify};
 use picking::{append, told_apart};
 use words::lists::{find, find_next};
+use words::rows::CELLS;
 use words::shelf::{HEAD, START, clauses, entry};
-use words::word;
+use words::{WORDS, word};
 
 pub mod resetting; // no variable bound any more
 
@@ -53,8 +53,8 @@ fn begun(row: usize) -> Trial
 }
 
 // The rows at 0 and at q, where the clause stands behind the row.
-fn try_rows(heap: &[u32], cells: &mut [u16], rows: &mut [u16], q: usize) -> Attempt
-    requires { Made heap.now cells.old × Free cells.old × (length cells.old ≡ 8256) × (length rows.old ≡ CELLS) × Whole heap.now 1 0 × Whole heap.now 1 q × Low heap.now 8192 q }
+fn try_rows(heap: &[u32], cells: &mut [u16], rows: &mut [u16; CELLS], q: usize) -> Attempt
+    requires { Made heap.now cells.old × Free cells.old × (length cells.old ≡ 8256) × Whole heap.now 1 0 × Whole heap.now 1 q × Low heap.now 8192 q }
     ensures { Attempted heap.now q cells.new rows.new result }
 {
     let mut levels = [0u16; 514];
@@ -86,14 +86,14 @@ fn try_rows(heap: &[u32], cells: &mut [u16], rows: &mut [u16], q: usize) -> Atte
 fn try_clause(
     book: &[u32],
     shelf: &[u16],
-    words: &mut [u32],
+    words: &mut [u32; WORDS],
     n: usize,
     m: usize,
     i: usize,
     cells: &mut [u16],
-    rows: &mut [u16],
+    rows: &mut [u16; CELLS],
 ) -> Attempt
-    requires words_len { (length words.old ≡ WORDS) × (length cells.old ≡ 8256) × (length rows.old ≡ CELLS) × Free cells.old }
+    requires cells_len { (length cells.old ≡ 8256) × Free cells.old }
     requires fronted { ((P : Book) × BookOn book.now shelf.now P × (i < length P)) × ((f : Expr) × (g : Goal) × (a : Goal) × Fronted words.old n m f g a) }
     ensures row { take n words.new ≡ take n words.old }
     ensures tested { (P : Book) (f : Expr) (g a : Goal) → BookOn book.now shelf.now P → i < length P → Fronted words.old n m f g a → Tested f (clause_at P i) (take n words.old) (clause_words book.now shelf.now (length P) i) words.new cells.new rows.new n result }
@@ -119,13 +119,13 @@ pub enum Found {
 pub fn first_fit(
     book: &[u32],
     shelf: &[u16],
-    words: &mut [u32],
+    words: &mut [u32; WORDS],
     n: usize,
     m: usize,
     cells: &mut [u16],
-    rows: &mut [u16],
+    rows: &mut [u16; CELLS],
 ) -> Found
-    requires words_len { (length words.old ≡ WORDS) × (length cells.old ≡ 8256) × (length rows.old ≡ CELLS) × Free cells.old }
+    requires cells_len { (length cells.old ≡ 8256) × Free cells.old }
     requires fronted { ((P : Book) × BookOn book.now shelf.now P) × ((f : Expr) × (g : Goal) × (a : Goal) × Fronted words.old n m f g a) }
     ensures { (P : Book) (f : Expr) (g a : Goal) → BookOn book.now shelf.now P → Fronted words.old n m f g a → Sought P f book.now shelf.now (take n words.old) words.new cells.new rows.new n result }
 {

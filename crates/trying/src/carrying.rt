@@ -1,13 +1,14 @@
 // The next goal and answer, written off the heap.
 ghost use Rattle.std.specs.Prelude.{◌≡◌, length};
 ghost use Rattle.terms.specs.Subst.{Subst};
-ghost use Rattle.words.specs.Columns.{CELLS};
 ghost use Rattle.numbering.specs.Naming.{spare};
 ghost use Rattle.heap.specs.Heap.{Made, Solved};
 ghost use Rattle.trying.specs.Carrying.{Placed, goal_part, Put, Carried};
 
 use heap::walking::Walk;
 use heap::writing::{OVER, Pen, TIRED, write};
+use words::OUT;
+use words::rows::CELLS;
 
 // Where the clause's body, the rest of the goal and the answer stand on the heap, and how many formulas each has.
 #[derive(Clone, Copy)]
@@ -40,12 +41,12 @@ fn write_goal(
     heap: &[u32],
     cells: &[u16],
     levels: &mut [u16],
-    rows: &mut [u16],
-    out: &mut [u32],
+    rows: &mut [u16; CELLS],
+    out: &mut [u32; OUT],
     p: Parts,
 ) -> Pen
     requires made { Made heap.now cells.now × ((θ : Subst) × Solved heap.now cells.now θ) × Placed heap.now p }
-    requires cells_len { (length cells.now ≡ 8256) × (length rows.old ≡ CELLS) × (length levels.old ≡ 514) × (length out.old ≡ 8192) }
+    requires cells_len { (length cells.now ≡ 8256) × (length levels.old ≡ 514) }
     ensures put { Put heap.now cells.now rows.old out.old (record { at = 0; count = 0 }) (goal_part heap.now p) 4096 rows.new out.new result }
     ensures spare { spare rows.new ≡ spare rows.old }
 {
@@ -60,9 +61,15 @@ fn write_goal(
 }
 
 // The goal, and behind it the answer, at most 4,096 words too.
-pub fn write_next(heap: &[u32], cells: &[u16], rows: &mut [u16], out: &mut [u32], p: Parts) -> Next
+pub fn write_next(
+    heap: &[u32],
+    cells: &[u16],
+    rows: &mut [u16; CELLS],
+    out: &mut [u32; OUT],
+    p: Parts,
+) -> Next
     requires made { Made heap.now cells.now × ((θ : Subst) × Solved heap.now cells.now θ) × Placed heap.now p }
-    requires cells_len { (length cells.now ≡ 8256) × (length rows.old ≡ CELLS) × (length out.old ≡ 8192) }
+    requires cells_len { length cells.now ≡ 8256 }
     ensures carried { (θ : Subst) → Solved heap.now cells.now θ → Carried heap.now p θ out.new result }
     ensures spare { spare rows.new ≡ spare rows.old }
 {

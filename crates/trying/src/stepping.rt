@@ -3,9 +3,7 @@ ghost use Rattle.std.specs.Prelude.{◌≡◌, List, ◌∷◌, ℕ, ◌+◌, �
 ghost use Rattle.terms.specs.Node.{Expr};
 ghost use Rattle.search.specs.Next.{Book, Goal};
 ghost use Rattle.words.specs.Held.{RowIn, BookOn, starts, bodies};
-ghost use Rattle.words.specs.Columns.{CELLS, WORDS};
 ghost use Rattle.numbering.specs.Naming.{spare};
-ghost use Rattle.applying.specs.Applying.{Store};
 ghost use Rattle.resolve.specs.Advancing.{Advanced};
 ghost use Rattle.matching.specs.TrialLaws.{Free};
 ghost use Rattle.trying.specs.Stepping.{parts, concluded, Shaped, IsSetUp, Quickly, Quickened};
@@ -15,7 +13,9 @@ use picking::append;
 use resolve::{Front, Move};
 use trials::resetting::release;
 use trials::{Found, first_fit};
+use words::rows::CELLS;
 use words::shelf::{BODY, HEAD, START, entry};
+use words::{OUT, WORDS};
 
 // Of a row of words, a goal with its answer behind it: how many words it has, how many of them are the goal's and how many the goal's first
 // formula, and how many formulas goal and answer have.
@@ -77,14 +77,14 @@ fn concluded(next: Next, i: usize, formulas: usize) -> Quick
 // What the clause number i, whose trial the heap holds, says to the row.
 fn carry(
     shelf: &[u16],
-    words: &[u32],
+    words: &[u32; WORDS],
     x: Shape,
     i: usize,
     cells: &[u16],
-    rows: &mut [u16],
-    out: &mut [u32],
+    rows: &mut [u16; CELLS],
+    out: &mut [u32; OUT],
 ) -> Quick
-    requires words_len { (length words.now ≡ WORDS) × (length cells.now ≡ 8256) × (length rows.old ≡ CELLS) × (length out.old ≡ 8192) }
+    requires cells_len { length cells.now ≡ 8256 }
     requires by_index { (book : List ℕ) × (count : ℕ) × (P : Book) × (f : Expr) × (g : Goal) × (a : Goal) × IsSetUp book shelf.now words.now cells.now rows.old x i count P f g a }
     ensures quickly { (book : List ℕ) (count : ℕ) (P : Book) (f : Expr) (g a : Goal) → IsSetUp book shelf.now words.now cells.now rows.old x i count P f g a → Quickly P i f g a out.new result }
     ensures spare { spare rows.new ≡ spare rows.old }
@@ -104,12 +104,12 @@ fn on_heap(
     book: &[u32],
     shelf: &[u16],
     x: Shape,
-    words: &mut [u32],
-    rows: &mut [u16],
-    out: &mut [u32],
+    words: &mut [u32; WORDS],
+    rows: &mut [u16; CELLS],
+    out: &mut [u32; OUT],
     cells: &mut [u16],
 ) -> Quick
-    requires store { Store words.old rows.old out.old × (length cells.old ≡ 8256) × Free cells.old }
+    requires cells_len { (length cells.old ≡ 8256) × Free cells.old }
     requires shaped { ((P : Book) × BookOn book.now shelf.now P) × ((f : Expr) × (g : Goal) × (a : Goal) × Shaped (take x.row words.old) x f g a) }
     ensures quickened { (P : Book) (f : Expr) (g a : Goal) → BookOn book.now shelf.now P → Shaped (take x.row words.old) x f g a → Quickened P (f ∷ g) a out.new result }
     ensures free { Free cells.new }
@@ -151,12 +151,12 @@ pub fn advance(
     shelf: &[u16],
     row: &[u32],
     sides: Sides,
-    words: &mut [u32],
-    rows: &mut [u16],
-    out: &mut [u32],
+    words: &mut [u32; WORDS],
+    rows: &mut [u16; CELLS],
+    out: &mut [u32; OUT],
     cells: &mut [u16],
 ) -> Move
-    requires store { Store words.old rows.old out.old × (length cells.old ≡ 8256) × Free cells.old }
+    requires cells_len { (length cells.old ≡ 8256) × Free cells.old }
     requires row_in { ((P : Book) × BookOn book.now shelf.now P) × ((f : Expr) × (g : Goal) × (a : Goal) × RowIn row.now sides.words sides.formulas (f ∷ g) a × (sides.answers ≡ length a) × (sides.first ≡ length f)) }
     ensures advanced { (P : Book) (f : Expr) (g a : Goal) → BookOn book.now shelf.now P → RowIn row.now sides.words sides.formulas (f ∷ g) a → sides.answers ≡ length a → sides.first ≡ length f → Advanced P (f ∷ g) a out.new result }
     ensures free { Free cells.new }

@@ -9,13 +9,13 @@ ghost use Rattle.search.specs.Fail.{failing};
 ghost use Rattle.search.specs.Furthest.{furthest};
 ghost use Rattle.words.specs.Held.{GoalIn, ClauseIn, BookOn};
 ghost use Rattle.words.specs.HeldLaws.{headed};
-ghost use Rattle.picking.specs.Picking.{Bench};
 ghost use Rattle.weighing.specs.Stuck.{figured, Weighed};
 
 use picking::pair;
 use words::lists::{find, find_next};
+use words::rows::CELLS;
 use words::shelf::{HEAD, START, clauses, entry};
-use words::word;
+use words::{WORDS, word};
 
 // A clause's number, and the argument, from 1, at which its head fails; 0 where no head of the predicate and arity does.
 #[derive(Clone, Copy)]
@@ -25,8 +25,13 @@ pub struct Figures {
 }
 
 // The argument at which a head of the formula's predicate and arity fails; 0 where it unifies.
-fn failing(formula: &[u32], head: &[u32], words: &mut [u32], rows: &mut [u16]) -> usize
-    requires { Bench words.old rows.old × ((f : Expr) × GoalIn formula.now 1 (f ∷ [])) × ((c : Clause) × (k : ℕ) × ClauseIn head.now k 0 (headed c)) × (get_or head.now 0 0 ≡ get_or formula.now 0 0) }
+fn failing(
+    formula: &[u32],
+    head: &[u32],
+    words: &mut [u32; WORDS],
+    rows: &mut [u16; CELLS],
+) -> usize
+    requires { ((f : Expr) × GoalIn formula.now 1 (f ∷ [])) × ((c : Clause) × (k : ℕ) × ClauseIn head.now k 0 (headed c)) × (get_or head.now 0 0 ≡ get_or formula.now 0 0) }
     ensures { (f : Expr) (c : Clause) (k : ℕ) → GoalIn formula.now 1 (f ∷ []) → ClauseIn head.now k 0 (headed c) → get_or head.now 0 0 ≡ get_or formula.now 0 0 → result ≡ failing f c }
 {
     let n = pair(words, formula, head);
@@ -40,10 +45,10 @@ fn weigh(
     shelf: &[u16],
     i: usize,
     best: Figures,
-    words: &mut [u32],
-    rows: &mut [u16],
+    words: &mut [u32; WORDS],
+    rows: &mut [u16; CELLS],
 ) -> Figures
-    requires { Bench words.old rows.old × ((f : Expr) × GoalIn formula.now 1 (f ∷ [])) × ((P : Book) × BookOn book.now shelf.now P × (i < length P)) }
+    requires { ((f : Expr) × GoalIn formula.now 1 (f ∷ [])) × ((P : Book) × BookOn book.now shelf.now P × (i < length P)) }
     ensures { (f : Expr) (P : Book) → GoalIn formula.now 1 (f ∷ []) → BookOn book.now shelf.now P → i < length P → Weighed (figured best) i (failing f (clause_at P i)) (figured result) }
 {
     let s = entry(shelf, START, i);
@@ -68,10 +73,10 @@ pub fn furthest(
     formula: &[u32],
     book: &[u32],
     shelf: &[u16],
-    words: &mut [u32],
-    rows: &mut [u16],
+    words: &mut [u32; WORDS],
+    rows: &mut [u16; CELLS],
 ) -> Figures
-    requires { Bench words.old rows.old × ((f : Expr) × GoalIn formula.now 1 (f ∷ [])) × ((P : Book) × BookOn book.now shelf.now P) }
+    requires { ((f : Expr) × GoalIn formula.now 1 (f ∷ [])) × ((P : Book) × BookOn book.now shelf.now P) }
     ensures { (f : Expr) (P : Book) → GoalIn formula.now 1 (f ∷ []) → BookOn book.now shelf.now P → figured result ≡ furthest P f }
 {
     let n = clauses(shelf);

@@ -1,3 +1,4 @@
+use borrow.Author.Rules.{rules}
 use Prim.Native.Nat.{◌+◌}
 use native.Mathlib.Omega.{arith}
 use mathlib.Core.Path.{refl, ◌∙◌}
@@ -9,7 +10,7 @@ use Rattle.applying.proofs.Applies.{few-written, ends-full, ends-many, ends-over
 use Rattle.applying.proofs.apply.Goals as goal
 
 pub build-all-requires : goal.build-all-requires
-build-all-requires c = let s = c.requires.0.4 in (omega (arith, first-within _ _ _ _ _ _ _ s, goal-within _ _ _ _ _ _ _ s), row_small _ _ _ _ _ _ _ s, head-within _ _ _ _ _ _ _ s, clause-small _ _ _ _ _ _ _ s, c.requires.1.words_length, λ x l. (row_fits s.row_in x l).valid, λ x l. (s.clause_in.fit x l).valid)
+build-all-requires c = let s = c.requires.0.4 in (omega (arith, first-within _ _ _ _ _ _ _ s, goal-within _ _ _ _ _ _ _ s), row_small _ _ _ _ _ _ _ s, head-within _ _ _ _ _ _ _ s, clause-small _ _ _ _ _ _ _ s, λ x l. (row_fits s.row_in x l).valid, λ x l. (s.clause_in.fit x l).valid)
 
 pub overflow_add-p : goal.overflow_add-p
 overflow_add-p c = let s = c.requires.0.4 in record { fits = omega (arith, first-within _ _ _ _ _ _ _ s, goal-small _ _ _ _ _ _ _ s, head-within _ _ _ _ _ _ _ s, clause-small _ _ _ _ _ _ _ s) }
@@ -18,61 +19,25 @@ pub overflow_add-behind : goal.overflow_add-behind
 overflow_add-behind c = let s = c.requires.0.4 in record { fits = omega (arith, goal-small _ _ _ _ _ _ _ s, clause-small _ _ _ _ _ _ _ s) }
 
 pub instance-goal-requires : goal.instance-goal-requires
-instance-goal-requires c = let q = places _ _ _ _ _ _ _ c.requires.0.4 _ _ c.requires.1.words_length c.requires.2 _ _ (c.build-all.auto.words ∙ c.requires.1.words_length) c.build-all.ensures (c.args.cut.goal + length c.args.clause.now) refl in record { store = (record { words_length = (c.build-all.auto.words ∙ c.requires.1.words_length); rows_length = c.requires.1.rows_length; out_length = c.requires.1.out_length }, q.0, q.1, q.2, omega arith); fits = (goal_fit _ _ _ _ _ _ _ c.requires.0.4 _ _ c.requires.1.words_length c.requires.2 _ _ (c.build-all.auto.words ∙ c.requires.1.words_length) c.build-all.ensures (c.args.cut.goal + length c.args.clause.now) refl, solved-here _ _ _ _ _ _ _ c.requires.0.4 _ _ c.requires.1.words_length c.requires.2 _ _ (c.build-all.auto.words ∙ c.requires.1.words_length) c.build-all.ensures) }
-
-pub shape_of-words-then-goal-eq-FULL : goal.shape_of-words-then-goal-eq-FULL
-shape_of-words-then-goal-eq-FULL c = c.build-all.auto.words
-
-pub shape_of-rows-then-goal-eq-FULL : goal.shape_of-rows-then-goal-eq-FULL
-shape_of-rows-then-goal-eq-FULL c = c.instance-goal.auto.rows
-
-pub shape_of-out-then-goal-eq-FULL : goal.shape_of-out-then-goal-eq-FULL
-shape_of-out-then-goal-eq-FULL c = c.instance-goal.auto.out
+instance-goal-requires c = let q = places _ _ _ _ _ _ _ c.requires.0.4 _ _ (search rules) c.requires.1 _ _ (search rules) c.build-all.ensures (c.args.cut.goal + length c.args.clause.now) refl in record { cuts = (q.0, q.1, q.2, omega arith); fits = (goal_fit _ _ _ _ _ _ _ c.requires.0.4 _ _ (search rules) c.requires.1 _ _ (search rules) c.build-all.ensures (c.args.cut.goal + length c.args.clause.now) refl, solved-here _ _ _ _ _ _ _ c.requires.0.4 _ _ (search rules) c.requires.1 _ _ (search rules) c.build-all.ensures) }
 
 pub returns-then-goal-eq-FULL : goal.returns-then-goal-eq-FULL
-returns-then-goal-eq-FULL c = λ f g a k s. ends-full _ _ _ _ _ c.requires.1.words_length c.requires.2 _ _ (c.build-all.auto.words ∙ c.requires.1.words_length) c.build-all.ensures (c.args.cut.goal + length c.args.clause.now) refl _ _ _ c.requires.1.out_length c.instance-goal.auto.out c.instance-goal.ensures.written f g a k s _ _ c.too_big.ensures c.if-goal-eq-FULL.true
-
-pub shape_of-words-then-cut-gt512 : goal.shape_of-words-then-cut-gt512
-shape_of-words-then-cut-gt512 c = c.build-all.auto.words
-
-pub shape_of-rows-then-cut-gt512 : goal.shape_of-rows-then-cut-gt512
-shape_of-rows-then-cut-gt512 c = c.instance-goal.auto.rows
-
-pub shape_of-out-then-cut-gt512 : goal.shape_of-out-then-cut-gt512
-shape_of-out-then-cut-gt512 c = c.instance-goal.auto.out
+returns-then-goal-eq-FULL c = λ f g a k s. ends-full _ _ _ _ _ (search rules) c.requires.1 _ _ (search rules) c.build-all.ensures (c.args.cut.goal + length c.args.clause.now) refl _ _ _ (search rules) (search rules) c.instance-goal.ensures.written f g a k s _ _ c.too_big.ensures c.if-goal-eq-FULL.true
 
 pub returns-then-cut-gt512 : goal.returns-then-cut-gt512
-returns-then-cut-gt512 c = λ f g a k s. ends-many _ _ _ _ _ c.requires.1.words_length c.requires.2 _ _ (c.build-all.auto.words ∙ c.requires.1.words_length) c.build-all.ensures (c.args.cut.goal + length c.args.clause.now) refl _ _ _ c.requires.1.out_length c.instance-goal.auto.out c.instance-goal.ensures.written f g a k s _ _ c.too_big-then-cut-gt512.ensures c.if-cut-gt512.true
+returns-then-cut-gt512 c = λ f g a k s. ends-many _ _ _ _ _ (search rules) c.requires.1 _ _ (search rules) c.build-all.ensures (c.args.cut.goal + length c.args.clause.now) refl _ _ _ (search rules) (search rules) c.instance-goal.ensures.written f g a k s _ _ c.too_big-then-cut-gt512.ensures c.if-cut-gt512.true
 
 pub instance-answer-requires : goal.instance-answer-requires
-instance-answer-requires c = let q = answer-places _ _ _ _ _ _ _ c.requires.0.4 _ _ c.requires.1.words_length c.requires.2 _ _ (c.build-all.auto.words ∙ c.requires.1.words_length) c.build-all.ensures (c.args.cut.goal + length c.args.clause.now) refl in record { store = (record { words_length = (c.build-all.auto.words ∙ c.requires.1.words_length); rows_length = c.instance-goal.auto.rows ∙ c.requires.1.rows_length; out_length = c.instance-goal.auto.out ∙ c.requires.1.out_length }, q.0, q.1, q.2, few-written _ _ _ _ _ c.requires.1.words_length c.requires.2 _ _ (c.build-all.auto.words ∙ c.requires.1.words_length) c.build-all.ensures (c.args.cut.goal + length c.args.clause.now) refl _ _ _ c.requires.1.out_length c.instance-goal.auto.out c.instance-goal.ensures.written _ _ _ _ c.requires.0.4 c.if-goal-eq-FULL.false); fits = (all_fit _ _ _ _ _ _ _ c.requires.0.4 _ _ c.requires.1.words_length c.requires.2 _ _ (c.build-all.auto.words ∙ c.requires.1.words_length) c.build-all.ensures, solved_still _ _ _ c.instance-goal.ensures.kept (solved-here _ _ _ _ _ _ _ c.requires.0.4 _ _ c.requires.1.words_length c.requires.2 _ _ (c.build-all.auto.words ∙ c.requires.1.words_length) c.build-all.ensures)) }
-
-pub shape_of-words-then-answer-eq-FULL : goal.shape_of-words-then-answer-eq-FULL
-shape_of-words-then-answer-eq-FULL c = c.build-all.auto.words
-
-pub shape_of-rows-then-answer-eq-FULL : goal.shape_of-rows-then-answer-eq-FULL
-shape_of-rows-then-answer-eq-FULL c = c.instance-answer.auto.rows ∙ c.instance-goal.auto.rows
-
-pub shape_of-out-then-answer-eq-FULL : goal.shape_of-out-then-answer-eq-FULL
-shape_of-out-then-answer-eq-FULL c = c.instance-answer.auto.out ∙ c.instance-goal.auto.out
+instance-answer-requires c = let q = answer-places _ _ _ _ _ _ _ c.requires.0.4 _ _ (search rules) c.requires.1 _ _ (search rules) c.build-all.ensures (c.args.cut.goal + length c.args.clause.now) refl in record { cuts = (q.0, q.1, q.2, few-written _ _ _ _ _ (search rules) c.requires.1 _ _ (search rules) c.build-all.ensures (c.args.cut.goal + length c.args.clause.now) refl _ _ _ (search rules) (search rules) c.instance-goal.ensures.written _ _ _ _ c.requires.0.4 c.if-goal-eq-FULL.false); fits = (all_fit _ _ _ _ _ _ _ c.requires.0.4 _ _ (search rules) c.requires.1 _ _ (search rules) c.build-all.ensures, solved_still _ _ _ c.instance-goal.ensures.kept (solved-here _ _ _ _ _ _ _ c.requires.0.4 _ _ (search rules) c.requires.1 _ _ (search rules) c.build-all.ensures)) }
 
 pub returns-then-answer-eq-FULL : goal.returns-then-answer-eq-FULL
-returns-then-answer-eq-FULL c = λ f g a k s. ends-over _ _ _ _ _ c.requires.1.words_length c.requires.2 _ _ (c.build-all.auto.words ∙ c.requires.1.words_length) c.build-all.ensures (c.args.cut.goal + length c.args.clause.now) refl _ _ _ c.requires.1.out_length c.instance-goal.auto.out c.instance-goal.ensures.written f g a k s c.if-goal-eq-FULL.false c.if-cut-gt512.false _ _ _ c.instance-answer.auto.out c.instance-goal.ensures.kept c.instance-answer.ensures.written _ _ c.both.ensures c.if-answer-eq-FULL.true
+returns-then-answer-eq-FULL c = λ f g a k s. ends-over _ _ _ _ _ (search rules) c.requires.1 _ _ (search rules) c.build-all.ensures (c.args.cut.goal + length c.args.clause.now) refl _ _ _ (search rules) (search rules) c.instance-goal.ensures.written f g a k s c.if-goal-eq-FULL.false c.if-cut-gt512.false _ _ _ (search rules) c.instance-goal.ensures.kept c.instance-answer.ensures.written _ _ c.both.ensures c.if-answer-eq-FULL.true
 
 pub overflow_add-goal : goal.overflow_add-goal
-overflow_add-goal c = let q = ready _ _ _ _ _ c.requires.1.words_length c.requires.2 _ _ (c.build-all.auto.words ∙ c.requires.1.words_length) c.build-all.ensures (c.args.cut.goal + length c.args.clause.now) refl _ _ _ c.requires.1.out_length c.instance-goal.auto.out c.instance-goal.ensures.written _ _ _ _ c.requires.0.4 c.if-goal-eq-FULL.false c.if-cut-gt512.false _ _ _ c.instance-answer.auto.out c.instance-goal.ensures.kept c.instance-answer.ensures.written c.if-answer-eq-FULL.false in record { fits = omega (arith, q.1) }
+overflow_add-goal c = let q = ready _ _ _ _ _ (search rules) c.requires.1 _ _ (search rules) c.build-all.ensures (c.args.cut.goal + length c.args.clause.now) refl _ _ _ (search rules) (search rules) c.instance-goal.ensures.written _ _ _ _ c.requires.0.4 c.if-goal-eq-FULL.false c.if-cut-gt512.false _ _ _ (search rules) c.instance-goal.ensures.kept c.instance-answer.ensures.written c.if-answer-eq-FULL.false in record { fits = omega (arith, q.1) }
 
 pub renumber-requires : goal.renumber-requires
-renumber-requires c = let q = ready _ _ _ _ _ c.requires.1.words_length c.requires.2 _ _ (c.build-all.auto.words ∙ c.requires.1.words_length) c.build-all.ensures (c.args.cut.goal + length c.args.clause.now) refl _ _ _ c.requires.1.out_length c.instance-goal.auto.out c.instance-goal.ensures.written _ _ _ _ c.requires.0.4 c.if-goal-eq-FULL.false c.if-cut-gt512.false _ _ _ c.instance-answer.auto.out c.instance-goal.ensures.kept c.instance-answer.ensures.written c.if-answer-eq-FULL.false in (c.instance-answer.auto.rows ∙ c.instance-goal.auto.rows ∙ c.requires.1.rows_length, q.0, q.1, q.2)
-
-pub shape_of-words : goal.shape_of-words
-shape_of-words c = c.build-all.auto.words
-
-pub shape_of-rows : goal.shape_of-rows
-shape_of-rows c = c.renumber.auto.rows ∙ c.instance-answer.auto.rows ∙ c.instance-goal.auto.rows
-
-pub shape_of-out : goal.shape_of-out
-shape_of-out c = c.renumber.auto.words ∙ c.instance-answer.auto.out ∙ c.instance-goal.auto.out
+renumber-requires c = let q = ready _ _ _ _ _ (search rules) c.requires.1 _ _ (search rules) c.build-all.ensures (c.args.cut.goal + length c.args.clause.now) refl _ _ _ (search rules) (search rules) c.instance-goal.ensures.written _ _ _ _ c.requires.0.4 c.if-goal-eq-FULL.false c.if-cut-gt512.false _ _ _ (search rules) c.instance-goal.ensures.kept c.instance-answer.ensures.written c.if-answer-eq-FULL.false in (q.0, q.1, q.2)
 
 pub returns : goal.returns
-returns c = λ f g a k s. ends-done _ _ _ _ _ c.requires.1.words_length c.requires.2 _ _ (c.build-all.auto.words ∙ c.requires.1.words_length) c.build-all.ensures (c.args.cut.goal + length c.args.clause.now) refl _ _ _ c.requires.1.out_length c.instance-goal.auto.out c.instance-goal.ensures.written f g a k s c.if-goal-eq-FULL.false c.if-cut-gt512.false _ _ _ c.instance-answer.auto.out c.instance-goal.ensures.kept c.instance-answer.ensures.written c.if-answer-eq-FULL.false _ c.renumber.auto.words c.renumber.ensures _ c.both-2.ensures
+returns c = λ f g a k s. ends-done _ _ _ _ _ (search rules) c.requires.1 _ _ (search rules) c.build-all.ensures (c.args.cut.goal + length c.args.clause.now) refl _ _ _ (search rules) (search rules) c.instance-goal.ensures.written f g a k s c.if-goal-eq-FULL.false c.if-cut-gt512.false _ _ _ (search rules) c.instance-goal.ensures.kept c.instance-answer.ensures.written c.if-answer-eq-FULL.false _ (search rules) c.renumber.ensures _ c.both-2.ensures

@@ -1,3 +1,4 @@
+use borrow.Author.Rules.{rules}
 use Prim.Native.Nat.{◌-◌, ◌<◌}
 use native.Mathlib.Omega.{arith}
 use mathlib.Core.Path.{ap, ◌∙◌}
@@ -37,9 +38,6 @@ shape_of-words-then-is_given c = c.loop-i.invariant.words_long
 pub shape_of-cells-then-is_given : goal.shape_of-cells-then-is_given
 shape_of-cells-then-is_given c = ap length c.loop-i.invariant.cells_are
 
-pub shape_of-rows-then-is_given : goal.shape_of-rows-then-is_given
-shape_of-rows-then-is_given c = c.loop-i.invariant.rows_long
-
 pub shape_of-levels-then-is_given : goal.shape_of-levels-then-is_given
 shape_of-levels-then-is_given c = c.loop-i.invariant.fore.long
 
@@ -74,16 +72,13 @@ pub overflow_sub-e : goal.overflow_sub-e
 overflow_sub-e c = let d = (placed c.requires.holds.0.1 c.loop-i.i c.entry-b.result c.entry-e.result c.entry-t.result (omega (arith, c.loop-i-test.true, c.clauses-all.ensures _ c.requires.holds.0.1.long)) c.entry-b.ensures.0 c.entry-e.ensures.0 c.entry-t.ensures.0) in omega (arith, d.begins)
 
 pub try_clause-requires : goal.try_clause-requires
-try_clause-requires c = record { words_len_bound = (omega (arith, c.requires.words_len_bound.0, c.loop-i.invariant.words_long), omega (arith, c.requires.words_len_bound.1, c.loop-i.invariant.words_long), c.requires.words_len_bound.2, c.loop-i.invariant.rows_long ∙ c.requires.words_len_bound.3, c.loop-i.invariant.stack_long ∙ c.requires.words_len_bound.4); by_index = ((_, _, _, held-now c.loop-i.invariant c.requires.holds.1.3), (_, _, (placed c.requires.holds.0.1 c.loop-i.i c.entry-b.result c.entry-e.result c.entry-t.result (omega (arith, c.loop-i-test.true, c.clauses-all.ensures _ c.requires.holds.0.1.long)) c.entry-b.ensures.0 c.entry-e.ensures.0 c.entry-t.ensures.0).clause)) }
+try_clause-requires c = record { words_len_bound = (omega (arith, c.requires.words_len_bound.0, c.loop-i.invariant.words_long), omega (arith, c.requires.words_len_bound.1, c.loop-i.invariant.words_long), c.requires.words_len_bound.2, c.loop-i.invariant.stack_long ∙ c.requires.words_len_bound.3); by_index = ((_, _, _, held-now c.loop-i.invariant c.requires.holds.1.3), (_, _, (placed c.requires.holds.0.1 c.loop-i.i c.entry-b.result c.entry-e.result c.entry-t.result (omega (arith, c.loop-i-test.true, c.clauses-all.ensures _ c.requires.holds.0.1.long)) c.entry-b.ensures.0 c.entry-e.ensures.0 c.entry-t.ensures.0).clause)) }
 
 pub shape_of-words-in-Fits : goal.shape_of-words-in-Fits
 shape_of-words-in-Fits c = c.try_clause.auto.words ∙ c.loop-i.invariant.words_long
 
 pub shape_of-cells-in-Fits : goal.shape_of-cells-in-Fits
 shape_of-cells-in-Fits c = c.try_clause.auto.cells ∙ ap length c.loop-i.invariant.cells_are
-
-pub shape_of-rows-in-Fits : goal.shape_of-rows-in-Fits
-shape_of-rows-in-Fits c = c.try_clause.auto.rows ∙ c.loop-i.invariant.rows_long
 
 pub shape_of-levels-in-Fits : goal.shape_of-levels-in-Fits
 shape_of-levels-in-Fits c = c.try_clause.auto.levels ∙ c.loop-i.invariant.fore.long
@@ -104,16 +99,13 @@ pub loop-i-smaller : goal.loop-i-smaller
 loop-i-smaller c = let x = (c.hopeful-i-in-Clash.ensures _ _ c.requires.holds.0.1 (c.find_next.ensures _ c.requires.holds.0.1 (omega (arith, c.loop-i-test.true, c.clauses-all.ensures _ c.requires.holds.0.1.long)) (c.loop-i.invariant.begins _ c.requires.holds.0.1 (omega (arith, c.loop-i-test.true, c.clauses-all.ensures _ c.requires.holds.0.1.long))))).over in omega (arith, x.low, c.loop-i-test.true)
 
 pub loop-i-preserved : goal.loop-i-preserved
-loop-i-preserved c = seek-again c.loop-i.invariant (lent-lead c.requires.holds.1.3 c.lead-x.ensures) c.requires.holds.0.0 c.requires.holds.0.1 (λ P o. c.clauses-all.ensures _ o.long) c.loop-i-test.true c.word-u.ensures (λ P o l e. (c.hopeful-i-in-Clash.ensures P _ o (c.find_next.ensures P o l e)).over) c.try_clause.auto.words (kept-clash c.loop-i.invariant c.requires.holds.0.1 c.requires.holds.1.3 (omega (arith, c.loop-i-test.true, c.clauses-all.ensures _ c.requires.holds.0.1.long)) (take (c.entry-t.result - c.entry-b.result) (drop c.entry-b.result c.args.book.now)) c.try_clause.new.words c.try_clause.new.cells c.try_clause.new.rows (clause-is c.requires.holds.0.1 c.loop-i.i c.entry-b.result c.entry-e.result c.entry-t.result (omega (arith, c.loop-i-test.true, c.clauses-all.ensures _ c.requires.holds.0.1.long)) c.entry-b.ensures.0 c.entry-e.ensures.0 c.entry-t.ensures.0) c.try_clause.result (c.try_clause.ensures.tested _ _ _ _ _ (held-now c.loop-i.invariant c.requires.holds.1.3) (placed c.requires.holds.0.1 c.loop-i.i c.entry-b.result c.entry-e.result c.entry-t.result (omega (arith, c.loop-i-test.true, c.clauses-all.ensures _ c.requires.holds.0.1.long)) c.entry-b.ensures.0 c.entry-e.ensures.0 c.entry-t.ensures.0).clause) c.in-Clash.is) c.try_clause.auto.rows c.try_clause.ensures.levels c.try_clause.auto.stack c.try_clause.ensures.words (λ P f g a o h l. none_here c.loop-i.invariant o h l (take (c.entry-t.result - c.entry-b.result) (drop c.entry-b.result c.args.book.now)) c.try_clause.new.words c.try_clause.new.cells c.try_clause.new.rows (clause-is o c.loop-i.i c.entry-b.result c.entry-e.result c.entry-t.result l c.entry-b.ensures.0 c.entry-e.ensures.0 c.entry-t.ensures.0) c.try_clause.result (c.try_clause.ensures.tested f g a _ _ (held-now c.loop-i.invariant h) (placed o c.loop-i.i c.entry-b.result c.entry-e.result c.entry-t.result l c.entry-b.ensures.0 c.entry-e.ensures.0 c.entry-t.ensures.0).clause) c.in-Clash.is)
+loop-i-preserved c = seek-again c.loop-i.invariant (lent-lead c.requires.holds.1.3 c.lead-x.ensures) c.requires.holds.0.0 c.requires.holds.0.1 (λ P o. c.clauses-all.ensures _ o.long) c.loop-i-test.true c.word-u.ensures (λ P o l e. (c.hopeful-i-in-Clash.ensures P _ o (c.find_next.ensures P o l e)).over) c.try_clause.auto.words (kept-clash c.loop-i.invariant c.requires.holds.0.1 c.requires.holds.1.3 (omega (arith, c.loop-i-test.true, c.clauses-all.ensures _ c.requires.holds.0.1.long)) (take (c.entry-t.result - c.entry-b.result) (drop c.entry-b.result c.args.book.now)) c.try_clause.new.words c.try_clause.new.cells c.try_clause.new.rows (clause-is c.requires.holds.0.1 c.loop-i.i c.entry-b.result c.entry-e.result c.entry-t.result (omega (arith, c.loop-i-test.true, c.clauses-all.ensures _ c.requires.holds.0.1.long)) c.entry-b.ensures.0 c.entry-e.ensures.0 c.entry-t.ensures.0) c.try_clause.result (c.try_clause.ensures.tested _ _ _ _ _ (held-now c.loop-i.invariant c.requires.holds.1.3) (placed c.requires.holds.0.1 c.loop-i.i c.entry-b.result c.entry-e.result c.entry-t.result (omega (arith, c.loop-i-test.true, c.clauses-all.ensures _ c.requires.holds.0.1.long)) c.entry-b.ensures.0 c.entry-e.ensures.0 c.entry-t.ensures.0).clause) c.in-Clash.is) (search rules) c.try_clause.ensures.levels c.try_clause.auto.stack c.try_clause.ensures.words (λ P f g a o h l. none_here c.loop-i.invariant o h l (take (c.entry-t.result - c.entry-b.result) (drop c.entry-b.result c.args.book.now)) c.try_clause.new.words c.try_clause.new.cells c.try_clause.new.rows (clause-is o c.loop-i.i c.entry-b.result c.entry-e.result c.entry-t.result l c.entry-b.ensures.0 c.entry-e.ensures.0 c.entry-t.ensures.0) c.try_clause.result (c.try_clause.ensures.tested f g a _ _ (held-now c.loop-i.invariant h) (placed o c.loop-i.i c.entry-b.result c.entry-e.result c.entry-t.result l c.entry-b.ensures.0 c.entry-e.ensures.0 c.entry-t.ensures.0).clause) c.in-Clash.is)
 
 pub shape_of-words-in-Tired : goal.shape_of-words-in-Tired
 shape_of-words-in-Tired c = c.try_clause.auto.words ∙ c.loop-i.invariant.words_long
 
 pub shape_of-cells-in-Tired : goal.shape_of-cells-in-Tired
 shape_of-cells-in-Tired c = c.try_clause.auto.cells ∙ ap length c.loop-i.invariant.cells_are
-
-pub shape_of-rows-in-Tired : goal.shape_of-rows-in-Tired
-shape_of-rows-in-Tired c = c.try_clause.auto.rows ∙ c.loop-i.invariant.rows_long
 
 pub shape_of-levels-in-Tired : goal.shape_of-levels-in-Tired
 shape_of-levels-in-Tired c = c.try_clause.auto.levels ∙ c.loop-i.invariant.fore.long
@@ -129,9 +121,6 @@ shape_of-words c = c.loop-i.invariant.words_long
 
 pub shape_of-cells : goal.shape_of-cells
 shape_of-cells c = ap length c.loop-i.invariant.cells_are
-
-pub shape_of-rows : goal.shape_of-rows
-shape_of-rows c = c.loop-i.invariant.rows_long
 
 pub shape_of-levels : goal.shape_of-levels
 shape_of-levels c = c.loop-i.invariant.fore.long

@@ -176,25 +176,23 @@ finish-in w rows z q from top s small o h e =
     rw (← o.kept END (length w) refl, ← o.kept UP (length w) refl, ← o.kept PICK (length w) refl, ← o.kept RANK (length w) refl) (finish w (ends w z) (ups w z) (picks w z) (ranks w z) from (ranks w q) (lefts w q) (rights w q) top s small h e)
 
 pub put-requires : goal.put-requires
-put-requires c = (search rules, search rules, search rules, omega (arith, c.requires.1.grouped.small))
+put-requires c = (search rules, search rules, omega (arith, c.requires.0.grouped.small))
 
 pub put-requires-2 : goal.put-requires-2
-put-requires-2 c = (search rules, omega (arith, c.requires.1.grouped.small), search rules, search rules)
+put-requires-2 c = (search rules, omega (arith, c.requires.0.grouped.small), search rules)
 
 pub loop-top-init : goal.loop-top-init
-loop-top-init c = (begin-in _ _ _ _ _ _ c.requires.1 c.requires.2 c.requires.3 c.requires.4 c.put.ensures c.put-2.ensures, search rules, same)
+loop-top-init c = (begin-in _ _ _ _ _ _ c.requires.0 c.requires.1 c.requires.2 c.requires.3 c.put.ensures c.put-2.ensures, search rules, same)
 
 pub cell-r-requires : goal.cell-r-requires
-cell-r-requires c =
-    let under_top : 0 < c.loop-top.top → c.loop-top.top - 1 < length c.args.words.now = λ h. omega (arith, h, c.loop-top.invariant.0.0.count) in
-    (search rules, omega (arith, c.requires.1.grouped.small, under_top c.loop-top-test.true), search rules)
+cell-r-requires c = let under_top : 0 < c.loop-top.top → c.loop-top.top - 1 < length c.args.words.now = λ h. omega (arith, h, c.loop-top.invariant.0.0.count) in
+    (search rules, omega (arith, c.requires.0.grouped.small, under_top c.loop-top-test.true))
 
 pub cell-x-requires : goal.cell-x-requires
-cell-x-requires c =
-    let opened : Only (LEFT ∷ RIGHT ∷ []) c.args.rows.now c.put-2.new.rows = after (wider (LEFT ∷ RIGHT ∷ []) refl c.put.ensures.only) (wider (LEFT ∷ RIGHT ∷ []) refl c.put-2.ensures.only) in
+cell-x-requires c = let opened : Only (LEFT ∷ RIGHT ∷ []) c.args.rows.now c.put-2.new.rows = after (wider (LEFT ∷ RIGHT ∷ []) refl c.put.ensures.only) (wider (LEFT ∷ RIGHT ∷ []) refl c.put-2.ensures.only) in
     let under_top : 0 < c.loop-top.top → c.loop-top.top - 1 < length c.args.words.now = λ h. omega (arith, h, c.loop-top.invariant.0.0.count) in
     let top-at : let l = c.loop-top in Top c.args.words.now c.put-2.new.rows l.rows c.args.from l.top l.s c.cell-r.result = let o = opened in
-    let p = c.requires.1 in
+    let p = c.requires.0 in
     record {
       g = grouped-in _ _ _ o p.grouped;
       se = searched-in _ _ _ o p.searched;
@@ -204,14 +202,13 @@ cell-x-requires c =
       pos = c.loop-top-test.true;
       er = c.cell-r.ensures.0 _ (under_top c.loop-top-test.true);
     } in
-    (search rules, omega (arith, c.requires.1.grouped.small, in_r_in (top-at)), search rules)
+    (search rules, omega (arith, c.requires.0.grouped.small, in_r_in (top-at)))
 
 pub lacking-k-requires : goal.lacking-k-requires
-lacking-k-requires c =
-    let opened : Only (LEFT ∷ RIGHT ∷ []) c.args.rows.now c.put-2.new.rows = after (wider (LEFT ∷ RIGHT ∷ []) refl c.put.ensures.only) (wider (LEFT ∷ RIGHT ∷ []) refl c.put-2.ensures.only) in
+lacking-k-requires c = let opened : Only (LEFT ∷ RIGHT ∷ []) c.args.rows.now c.put-2.new.rows = after (wider (LEFT ∷ RIGHT ∷ []) refl c.put.ensures.only) (wider (LEFT ∷ RIGHT ∷ []) refl c.put-2.ensures.only) in
     let under_top : 0 < c.loop-top.top → c.loop-top.top - 1 < length c.args.words.now = λ h. omega (arith, h, c.loop-top.invariant.0.0.count) in
     let top-at : let l = c.loop-top in Top c.args.words.now c.put-2.new.rows l.rows c.args.from l.top l.s c.cell-r.result = let o = opened in
-    let p = c.requires.1 in
+    let p = c.requires.0 in
     record {
       g = grouped-in _ _ _ o p.grouped;
       se = searched-in _ _ _ o p.searched;
@@ -222,17 +219,16 @@ lacking-k-requires c =
       er = c.cell-r.ensures.0 _ (under_top c.loop-top-test.true);
     } in
     let picked-at : c.cell-x.result ≡ get_or (picks c.args.words.now c.loop-top.rows) c.cell-r.result 0 = c.cell-x.ensures.0 _ (in_r_in (top-at)) in
-    (search rules, c.requires.1.grouped.small, again-in (top-at), in_x_in (top-at) (picked-at))
+    (c.requires.0.grouped.small, again-in (top-at), in_x_in (top-at) (picked-at))
 
 pub cell-z-requires : goal.cell-z-requires
-cell-z-requires c = (search rules, omega (arith, c.requires.1.grouped.small, c.if-k-n.true), search rules)
+cell-z-requires c = (search rules, omega (arith, c.requires.0.grouped.small, c.if-k-n.true))
 
 pub put-requires-then-z-eq0 : goal.put-requires-then-z-eq0
-put-requires-then-z-eq0 c =
-    let opened : Only (LEFT ∷ RIGHT ∷ []) c.args.rows.now c.put-2.new.rows = after (wider (LEFT ∷ RIGHT ∷ []) refl c.put.ensures.only) (wider (LEFT ∷ RIGHT ∷ []) refl c.put-2.ensures.only) in
+put-requires-then-z-eq0 c = let opened : Only (LEFT ∷ RIGHT ∷ []) c.args.rows.now c.put-2.new.rows = after (wider (LEFT ∷ RIGHT ∷ []) refl c.put.ensures.only) (wider (LEFT ∷ RIGHT ∷ []) refl c.put-2.ensures.only) in
     let under_top : 0 < c.loop-top.top → c.loop-top.top - 1 < length c.args.words.now = λ h. omega (arith, h, c.loop-top.invariant.0.0.count) in
     let top-at : let l = c.loop-top in Top c.args.words.now c.put-2.new.rows l.rows c.args.from l.top l.s c.cell-r.result = let o = opened in
-    let p = c.requires.1 in
+    let p = c.requires.0 in
     record {
       g = grouped-in _ _ _ o p.grouped;
       se = searched-in _ _ _ o p.searched;
@@ -245,14 +241,14 @@ put-requires-then-z-eq0 c =
     let picked-at : c.cell-x.result ≡ get_or (picks c.args.words.now c.loop-top.rows) c.cell-r.result 0 = c.cell-x.ensures.0 _ (in_r_in (top-at)) in
     let look_at : let l = c.loop-top in
     Look c.args.words.now c.put-2.new.rows l.rows c.args.from l.top l.s c.cell-r.result c.cell-x.result c.lacking-k.result = record { at = top-at; ex = picked-at; op = c.lacking-k.ensures } in
-    (search rules, omega (arith, c.requires.1.grouped.small, free_in (look_at) _ c.if-k-n.true (c.cell-z.ensures.0 _ c.if-k-n.true) c.if-z-eq0.true), search rules, omega (arith, c.requires.1.grouped.small, c.if-k-n.true))
+    (search rules, omega (arith, c.requires.0.grouped.small, free_in (look_at) _ c.if-k-n.true (c.cell-z.ensures.0 _ c.if-k-n.true) c.if-z-eq0.true), omega (arith, c.requires.0.grouped.small, c.if-k-n.true))
 
 pub overflow_add-top : goal.overflow_add-top
 overflow_add-top c =
     let opened : Only (LEFT ∷ RIGHT ∷ []) c.args.rows.now c.put-2.new.rows = after (wider (LEFT ∷ RIGHT ∷ []) refl c.put.ensures.only) (wider (LEFT ∷ RIGHT ∷ []) refl c.put-2.ensures.only) in
     let under_top : 0 < c.loop-top.top → c.loop-top.top - 1 < length c.args.words.now = λ h. omega (arith, h, c.loop-top.invariant.0.0.count) in
     let top-at : let l = c.loop-top in Top c.args.words.now c.put-2.new.rows l.rows c.args.from l.top l.s c.cell-r.result = let o = opened in
-    let p = c.requires.1 in
+    let p = c.requires.0 in
     record {
       g = grouped-in _ _ _ o p.grouped;
       se = searched-in _ _ _ o p.searched;
@@ -265,14 +261,13 @@ overflow_add-top c =
     let picked-at : c.cell-x.result ≡ get_or (picks c.args.words.now c.loop-top.rows) c.cell-r.result 0 = c.cell-x.ensures.0 _ (in_r_in (top-at)) in
     let look_at : let l = c.loop-top in
     Look c.args.words.now c.put-2.new.rows l.rows c.args.from l.top l.s c.cell-r.result c.cell-x.result c.lacking-k.result = record { at = top-at; ex = picked-at; op = c.lacking-k.ensures } in
-    omega (arith, c.requires.1.grouped.small, free_in (look_at) _ c.if-k-n.true (c.cell-z.ensures.0 _ c.if-k-n.true) c.if-z-eq0.true)
+    omega (arith, c.requires.0.grouped.small, free_in (look_at) _ c.if-k-n.true (c.cell-z.ensures.0 _ c.if-k-n.true) c.if-z-eq0.true)
 
 pub put-requires-then-z-eq0-2 : goal.put-requires-then-z-eq0-2
-put-requires-then-z-eq0-2 c =
-    let opened : Only (LEFT ∷ RIGHT ∷ []) c.args.rows.now c.put-2.new.rows = after (wider (LEFT ∷ RIGHT ∷ []) refl c.put.ensures.only) (wider (LEFT ∷ RIGHT ∷ []) refl c.put-2.ensures.only) in
+put-requires-then-z-eq0-2 c = let opened : Only (LEFT ∷ RIGHT ∷ []) c.args.rows.now c.put-2.new.rows = after (wider (LEFT ∷ RIGHT ∷ []) refl c.put.ensures.only) (wider (LEFT ∷ RIGHT ∷ []) refl c.put-2.ensures.only) in
     let under_top : 0 < c.loop-top.top → c.loop-top.top - 1 < length c.args.words.now = λ h. omega (arith, h, c.loop-top.invariant.0.0.count) in
     let top-at : let l = c.loop-top in Top c.args.words.now c.put-2.new.rows l.rows c.args.from l.top l.s c.cell-r.result = let o = opened in
-    let p = c.requires.1 in
+    let p = c.requires.0 in
     record {
       g = grouped-in _ _ _ o p.grouped;
       se = searched-in _ _ _ o p.searched;
@@ -285,14 +280,14 @@ put-requires-then-z-eq0-2 c =
     let picked-at : c.cell-x.result ≡ get_or (picks c.args.words.now c.loop-top.rows) c.cell-r.result 0 = c.cell-x.ensures.0 _ (in_r_in (top-at)) in
     let look_at : let l = c.loop-top in
     Look c.args.words.now c.put-2.new.rows l.rows c.args.from l.top l.s c.cell-r.result c.cell-x.result c.lacking-k.result = record { at = top-at; ex = picked-at; op = c.lacking-k.ensures } in
-    (search rules, omega (arith, c.requires.1.grouped.small, c.if-k-n.true), search rules, omega (arith, c.requires.1.grouped.small, free_in (look_at) _ c.if-k-n.true (c.cell-z.ensures.0 _ c.if-k-n.true) c.if-z-eq0.true))
+    (search rules, omega (arith, c.requires.0.grouped.small, c.if-k-n.true), omega (arith, c.requires.0.grouped.small, free_in (look_at) _ c.if-k-n.true (c.cell-z.ensures.0 _ c.if-k-n.true) c.if-z-eq0.true))
 
 pub loop-top-smaller-then-z-eq0 : goal.loop-top-smaller-then-z-eq0
 loop-top-smaller-then-z-eq0 c =
     let opened : Only (LEFT ∷ RIGHT ∷ []) c.args.rows.now c.put-2.new.rows = after (wider (LEFT ∷ RIGHT ∷ []) refl c.put.ensures.only) (wider (LEFT ∷ RIGHT ∷ []) refl c.put-2.ensures.only) in
     let under_top : 0 < c.loop-top.top → c.loop-top.top - 1 < length c.args.words.now = λ h. omega (arith, h, c.loop-top.invariant.0.0.count) in
     let top-at : let l = c.loop-top in Top c.args.words.now c.put-2.new.rows l.rows c.args.from l.top l.s c.cell-r.result = let o = opened in
-    let p = c.requires.1 in
+    let p = c.requires.0 in
     record {
       g = grouped-in _ _ _ o p.grouped;
       se = searched-in _ _ _ o p.searched;
@@ -312,7 +307,7 @@ loop-top-preserved-then-z-eq0 c =
     let opened : Only (LEFT ∷ RIGHT ∷ []) c.args.rows.now c.put-2.new.rows = after (wider (LEFT ∷ RIGHT ∷ []) refl c.put.ensures.only) (wider (LEFT ∷ RIGHT ∷ []) refl c.put-2.ensures.only) in
     let under_top : 0 < c.loop-top.top → c.loop-top.top - 1 < length c.args.words.now = λ h. omega (arith, h, c.loop-top.invariant.0.0.count) in
     let top-at : let l = c.loop-top in Top c.args.words.now c.put-2.new.rows l.rows c.args.from l.top l.s c.cell-r.result = let o = opened in
-    let p = c.requires.1 in
+    let p = c.requires.0 in
     record {
       g = grouped-in _ _ _ o p.grouped;
       se = searched-in _ _ _ o p.searched;
@@ -332,7 +327,7 @@ returns-else-z-eq0 c =
     let opened : Only (LEFT ∷ RIGHT ∷ []) c.args.rows.now c.put-2.new.rows = after (wider (LEFT ∷ RIGHT ∷ []) refl c.put.ensures.only) (wider (LEFT ∷ RIGHT ∷ []) refl c.put-2.ensures.only) in
     let under_top : 0 < c.loop-top.top → c.loop-top.top - 1 < length c.args.words.now = λ h. omega (arith, h, c.loop-top.invariant.0.0.count) in
     let top-at : let l = c.loop-top in Top c.args.words.now c.put-2.new.rows l.rows c.args.from l.top l.s c.cell-r.result = let o = opened in
-    let p = c.requires.1 in
+    let p = c.requires.0 in
     record {
       g = grouped-in _ _ _ o p.grouped;
       se = searched-in _ _ _ o p.searched;
@@ -348,11 +343,10 @@ returns-else-z-eq0 c =
     (record { cycle = λ y. cyclic-in _ _ _ (opened) (cycles_in (look_at) _ c.if-k-n.true (c.cell-z.ensures.0 _ c.if-k-n.true) c.if-z-eq0.false); dived = λ n. absurd (n refl) }, after (wider (LEFT ∷ RIGHT ∷ RANK ∷ []) refl (opened)) c.loop-top.invariant.2)
 
 pub put-requires-else-k-n : goal.put-requires-else-k-n
-put-requires-else-k-n c =
-    let opened : Only (LEFT ∷ RIGHT ∷ []) c.args.rows.now c.put-2.new.rows = after (wider (LEFT ∷ RIGHT ∷ []) refl c.put.ensures.only) (wider (LEFT ∷ RIGHT ∷ []) refl c.put-2.ensures.only) in
+put-requires-else-k-n c = let opened : Only (LEFT ∷ RIGHT ∷ []) c.args.rows.now c.put-2.new.rows = after (wider (LEFT ∷ RIGHT ∷ []) refl c.put.ensures.only) (wider (LEFT ∷ RIGHT ∷ []) refl c.put-2.ensures.only) in
     let under_top : 0 < c.loop-top.top → c.loop-top.top - 1 < length c.args.words.now = λ h. omega (arith, h, c.loop-top.invariant.0.0.count) in
     let top-at : let l = c.loop-top in Top c.args.words.now c.put-2.new.rows l.rows c.args.from l.top l.s c.cell-r.result = let o = opened in
-    let p = c.requires.1 in
+    let p = c.requires.0 in
     record {
       g = grouped-in _ _ _ o p.grouped;
       se = searched-in _ _ _ o p.searched;
@@ -362,10 +356,10 @@ put-requires-else-k-n c =
       pos = c.loop-top-test.true;
       er = c.cell-r.ensures.0 _ (under_top c.loop-top-test.true);
     } in
-    (search rules, omega (arith, c.requires.1.grouped.small, in_r_in (top-at)), search rules, omega (arith, c.requires.1.grouped.small, c.loop-top.invariant.0.0.ranked.count))
+    (search rules, omega (arith, c.requires.0.grouped.small, in_r_in (top-at)), omega (arith, c.requires.0.grouped.small, c.loop-top.invariant.0.0.ranked.count))
 
 pub overflow_add-s : goal.overflow_add-s
-overflow_add-s c = omega (arith, c.requires.1.grouped.small, c.loop-top.invariant.0.0.ranked.count)
+overflow_add-s c = omega (arith, c.requires.0.grouped.small, c.loop-top.invariant.0.0.ranked.count)
 
 pub loop-top-smaller : goal.loop-top-smaller
 loop-top-smaller c = omega (arith, ap (tally blank 0) (c.put-else-k-n.ensures.only.kept RIGHT (length c.args.words.now) refl))
@@ -375,7 +369,7 @@ loop-top-preserved c =
     let opened : Only (LEFT ∷ RIGHT ∷ []) c.args.rows.now c.put-2.new.rows = after (wider (LEFT ∷ RIGHT ∷ []) refl c.put.ensures.only) (wider (LEFT ∷ RIGHT ∷ []) refl c.put-2.ensures.only) in
     let under_top : 0 < c.loop-top.top → c.loop-top.top - 1 < length c.args.words.now = λ h. omega (arith, h, c.loop-top.invariant.0.0.count) in
     let top-at : let l = c.loop-top in Top c.args.words.now c.put-2.new.rows l.rows c.args.from l.top l.s c.cell-r.result = let o = opened in
-    let p = c.requires.1 in
+    let p = c.requires.0 in
     record {
       g = grouped-in _ _ _ o p.grouped;
       se = searched-in _ _ _ o p.searched;
@@ -393,4 +387,4 @@ loop-top-preserved c =
 pub returns : goal.returns
 returns c =
     let opened : Only (LEFT ∷ RIGHT ∷ []) c.args.rows.now c.put-2.new.rows = after (wider (LEFT ∷ RIGHT ∷ []) refl c.put.ensures.only) (wider (LEFT ∷ RIGHT ∷ []) refl c.put-2.ensures.only) in
-    (finish-in _ _ _ _ _ c.loop-top.top _ c.requires.1.grouped.small (opened) c.loop-top.invariant.0 (omega (arith, c.loop-top-test.false)), after (wider (LEFT ∷ RIGHT ∷ RANK ∷ []) refl (opened)) c.loop-top.invariant.2)
+    (finish-in _ _ _ _ _ c.loop-top.top _ c.requires.0.grouped.small (opened) c.loop-top.invariant.0 (omega (arith, c.loop-top-test.false)), after (wider (LEFT ∷ RIGHT ∷ RANK ∷ []) refl (opened)) c.loop-top.invariant.2)

@@ -36,19 +36,19 @@ pub loop-i-init : goal.loop-i-init
 loop-i-init c = (search rules, c.arity-k.ensures.0 ∙ ap arity_of c.word.ensures, search rules, λ j h. absurd (omega arith))
 
 pub find-r-requires : goal.find-r-requires
-find-r-requires c = (search rules, c.requires.1, in_c _ _ _ _ _ _ _ _ c.requires.2 c.requires.3 c.loop-i.invariant.1 c.loop-i.invariant.2 c.loop-i-test.true, c.requires.2.down)
+find-r-requires c = (c.requires.0, in_c _ _ _ _ _ _ _ _ c.requires.1 c.requires.2 c.loop-i.invariant.1 c.loop-i.invariant.2 c.loop-i-test.true, c.requires.1.down)
 
 pub cell-z-requires : goal.cell-z-requires
-cell-z-requires c = (search rules, omega (arith, c.requires.1, in_r _ _ _ _ _ _ _ _ c.requires.2 c.requires.3 c.loop-i.invariant.1 c.loop-i.invariant.2 c.loop-i-test.true _ c.find-r.ensures), search rules)
+cell-z-requires c = (search rules, omega (arith, c.requires.0, in_r _ _ _ _ _ _ _ _ c.requires.1 c.requires.2 c.loop-i.invariant.1 c.loop-i.invariant.2 c.loop-i-test.true _ c.find-r.ensures))
 
 pub returns-then-z-eq0 : goal.returns-then-z-eq0
-returns-then-z-eq0 c = found _ _ _ _ _ _ _ _ c.requires.2 c.requires.3 c.loop-i.invariant.1 c.loop-i.invariant.2 c.loop-i-test.true _ c.find-r.ensures _ (c.cell-z.ensures.0 _ (in_r _ _ _ _ _ _ _ _ c.requires.2 c.requires.3 c.loop-i.invariant.1 c.loop-i.invariant.2 c.loop-i-test.true _ c.find-r.ensures)) c.if-z-eq0.true
+returns-then-z-eq0 c = found _ _ _ _ _ _ _ _ c.requires.1 c.requires.2 c.loop-i.invariant.1 c.loop-i.invariant.2 c.loop-i-test.true _ c.find-r.ensures _ (c.cell-z.ensures.0 _ (in_r _ _ _ _ _ _ _ _ c.requires.1 c.requires.2 c.loop-i.invariant.1 c.loop-i.invariant.2 c.loop-i-test.true _ c.find-r.ensures)) c.if-z-eq0.true
 
 pub cell-c-requires : goal.cell-c-requires
-cell-c-requires c = (search rules, omega (arith, c.requires.1, in_c _ _ _ _ _ _ _ _ c.requires.2 c.requires.3 c.loop-i.invariant.1 c.loop-i.invariant.2 c.loop-i-test.true), search rules)
+cell-c-requires c = (search rules, omega (arith, c.requires.0, in_c _ _ _ _ _ _ _ _ c.requires.1 c.requires.2 c.loop-i.invariant.1 c.loop-i.invariant.2 c.loop-i-test.true))
 
 pub loop-i-preserved : goal.loop-i-preserved
-loop-i-preserved c = let a = c.args in let w = a.words.now in let e = ends w a.rows.now in let hc = in_c _ _ _ _ _ _ _ _ c.requires.2 c.requires.3 c.loop-i.invariant.1 c.loop-i.invariant.2 c.loop-i-test.true in let hr = in_r _ _ _ _ _ _ _ _ c.requires.2 c.requires.3 c.loop-i.invariant.1 c.loop-i.invariant.2 c.loop-i-test.true _ c.find-r.ensures in (omega (arith, c.loop-i-test.true), c.loop-i.invariant.1, next-argument e a.x c.loop-i.i _ _ c.loop-i.invariant.2 (c.cell-c.ensures.0 _ hc), below_more (λ j. 0 < under e (ups w a.rows.now) (ranks w a.rows.now) a.x j) c.loop-i.i c.loop-i.invariant.3 (let z = is _ _ _ _ _ _ _ _ c.requires.2 c.requires.3 c.loop-i.invariant.1 c.loop-i.invariant.2 c.loop-i-test.true _ c.find-r.ensures _ (c.cell-z.ensures.0 _ hr) in omega (arith, z, c.if-z-eq0.false)))
+loop-i-preserved c = let a = c.args in let w = a.words.now in let e = ends w a.rows.now in let hc = in_c _ _ _ _ _ _ _ _ c.requires.1 c.requires.2 c.loop-i.invariant.1 c.loop-i.invariant.2 c.loop-i-test.true in let hr = in_r _ _ _ _ _ _ _ _ c.requires.1 c.requires.2 c.loop-i.invariant.1 c.loop-i.invariant.2 c.loop-i-test.true _ c.find-r.ensures in (omega (arith, c.loop-i-test.true), c.loop-i.invariant.1, next-argument e a.x c.loop-i.i _ _ c.loop-i.invariant.2 (c.cell-c.ensures.0 _ hc), below_more (λ j. 0 < under e (ups w a.rows.now) (ranks w a.rows.now) a.x j) c.loop-i.i c.loop-i.invariant.3 (let z = is _ _ _ _ _ _ _ _ c.requires.1 c.requires.2 c.loop-i.invariant.1 c.loop-i.invariant.2 c.loop-i-test.true _ c.find-r.ensures _ (c.cell-z.ensures.0 _ hr) in omega (arith, z, c.if-z-eq0.false)))
 
 pub returns : goal.returns
 returns c = record { full = λ q i h. c.loop-i.invariant.3 i (omega (arith, h, c.loop-i.invariant.1, c.loop-i-test.false)); lacking = λ q. absurd (omega (arith, q)) }

@@ -38,16 +38,16 @@ module _ (w rows₀ rows : List ℕ) (s r : ℕ) (se : Search w rows₀ 1) (h : 
     stop e = rw (o.kept END (length w) refl, o.kept UP (length w) refl) at (f.cycle e)
 
 pub loop-r-init : goal.loop-r-init
-loop-r-init c = ((search rules, c.requires.1.dive, λ q h. absurd (omega arith)), search rules, same)
+loop-r-init c = ((search rules, c.requires.dive, λ q h. absurd (omega arith)), search rules, same)
 
 pub visit-s-requires : goal.visit-s-requires
-visit-s-requires c = (search rules, anew _ _ _ _ _ c.requires.1 c.loop-r.invariant.0 c.loop-r.invariant.2, c.loop-r-test.true)
+visit-s-requires c = (anew _ _ _ _ _ c.requires c.loop-r.invariant.0 c.loop-r.invariant.2, c.loop-r-test.true)
 
 pub returns-then-s-eq-CLASH : goal.returns-then-s-eq-CLASH
-returns-then-s-eq-CLASH c = (stop _ _ _ _ _ c.requires.1 c.loop-r.invariant.0 c.loop-r.invariant.2 _ _ c.visit-s.ensures.0 c.if-s-eq-CLASH.true, after c.loop-r.invariant.2 c.visit-s.ensures.1)
+returns-then-s-eq-CLASH c = (stop _ _ _ _ _ c.requires c.loop-r.invariant.0 c.loop-r.invariant.2 _ _ c.visit-s.ensures.0 c.if-s-eq-CLASH.true, after c.loop-r.invariant.2 c.visit-s.ensures.1)
 
 pub loop-r-preserved : goal.loop-r-preserved
-loop-r-preserved c = (turn_in _ _ _ _ _ c.requires.1 c.loop-r.invariant.0 c.loop-r.invariant.2 _ _ c.visit-s.ensures.0 c.loop-r-test.true c.if-s-eq-CLASH.false, search rules, after c.loop-r.invariant.2 c.visit-s.ensures.1)
+loop-r-preserved c = (turn_in _ _ _ _ _ c.requires c.loop-r.invariant.0 c.loop-r.invariant.2 _ _ c.visit-s.ensures.0 c.loop-r-test.true c.if-s-eq-CLASH.false, search rules, after c.loop-r.invariant.2 c.visit-s.ensures.1)
 
 pub returns : goal.returns
 returns c = (finish _ _ _ _ _ _ _ _ _ c.loop-r.invariant.0 c.loop-r-test.false, c.loop-r.invariant.2)

@@ -15,19 +15,19 @@ idle w rows r stamp se h = record {
 }
 
 pub cell-u-requires : goal.cell-u-requires
-cell-u-requires c = (search rules, omega (arith, c.requires.1.grouped.small, c.requires.2), search rules)
+cell-u-requires c = (search rules, omega (arith, c.requires.0.grouped.small, c.requires.1))
 
 pub cell-z-requires : goal.cell-z-requires
-cell-z-requires c = (search rules, omega (arith, c.requires.1.grouped.small, c.requires.2), search rules)
+cell-z-requires c = (search rules, omega (arith, c.requires.0.grouped.small, c.requires.1))
 
 pub dive-requires : goal.dive-requires
-dive-requires c = (search rules, c.requires.1, c.requires.2, sym (c.cell-u.ensures.0 _ c.requires.2) ∙ c.if-u-r.true, sym (c.cell-z.ensures.0 _ c.requires.2) ∙ c.if-z-eq0.true)
+dive-requires c = (c.requires.0, c.requires.1, sym (c.cell-u.ensures.0 _ c.requires.1) ∙ c.if-u-r.true, sym (c.cell-z.ensures.0 _ c.requires.1) ∙ c.if-z-eq0.true)
 
 pub returns-then-z-eq0 : goal.returns-then-z-eq0
 returns-then-z-eq0 c = c.dive.ensures
 
 pub returns-then-u-r : goal.returns-then-u-r
-returns-then-u-r c = (idle _ _ _ _ c.requires.1 (λ y. omega (arith, c.if-z-eq0.false, c.cell-z.ensures.0 _ c.requires.2)), same)
+returns-then-u-r c = (idle _ _ _ _ c.requires.0 (λ y. omega (arith, c.if-z-eq0.false, c.cell-z.ensures.0 _ c.requires.1)), same)
 
 pub returns : goal.returns
-returns c = (idle _ _ _ _ c.requires.1 (λ y. absurd (c.if-u-r.false (c.cell-u.ensures.0 _ c.requires.2 ∙ y))), same)
+returns c = (idle _ _ _ _ c.requires.0 (λ y. absurd (c.if-u-r.false (c.cell-u.ensures.0 _ c.requires.1 ∙ y))), same)

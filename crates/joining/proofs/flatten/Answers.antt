@@ -19,10 +19,10 @@ module _ (n : ℕ) (rows₀ rows : List ℕ) (p q : ℕ) (flat : Flat (column UP
       rw (s.here n) (rw e (halved-any (column UP n rows) flat.down p (omega (arith, column-length UP n rows)))))
 
 pub loop-p-init : goal.loop-p-init
-loop-p-init c = (flat_refl _ c.requires.2, search rules, search rules, same)
+loop-p-init c = (flat_refl _ c.requires.1, search rules, search rules, same)
 
 pub cell-g-requires : goal.cell-g-requires
-cell-g-requires c = (search rules, omega (arith, in_q _ _ _ _ _ c.loop-p.invariant.0 c.loop-p-test.true (c.cell-q.ensures.0 _ c.loop-p-test.true)), search rules)
+cell-g-requires c = (search rules, omega (arith, in_q _ _ _ _ _ c.loop-p.invariant.0 c.loop-p-test.true (c.cell-q.ensures.0 _ c.loop-p-test.true)))
 
 pub loop-p-preserved : goal.loop-p-preserved
 loop-p-preserved c = (flatter _ _ _ _ _ c.loop-p.invariant.0 c.loop-p-test.true (c.cell-q.ensures.0 _ c.loop-p-test.true) _ _ (c.cell-g.ensures.0 _ (in_q _ _ _ _ _ c.loop-p.invariant.0 c.loop-p-test.true (c.cell-q.ensures.0 _ c.loop-p-test.true))) c.put.ensures, search rules, search rules, after c.loop-p.invariant.3 c.put.ensures.only)

@@ -85,22 +85,22 @@ module _ (w rows y z : List ℕ) (tail p q a b : ℕ) (pre : Ready w (state_in w
       (one w (ups w rows) (ups w y) (ups w z) (picks w rows) (lefts w rows) (rights w rows) tail p q a b pre (ha.0, ha.1) (hb.0, hb.1) e)
 
 pub seek-a-requires : goal.seek-a-requires
-seek-a-requires c = (search rules, c.requires.1.grouped.small, c.requires.2, c.requires.1.grouped.down)
+seek-a-requires c = (c.requires.0.grouped.small, c.requires.1, c.requires.0.grouped.down)
 
 pub seek-b-requires : goal.seek-b-requires
-seek-b-requires c = (search rules, c.requires.1.grouped.small, c.requires.3, c.seek-a.ensures.1.down)
+seek-b-requires c = (c.requires.0.grouped.small, c.requires.2, c.seek-a.ensures.1.down)
 
 pub link-requires : goal.link-requires
-link-requires c = let h = asked_in _ _ _ _ _ _ _ _ _ (c.requires.1, c.requires.2, c.requires.3) c.seek-a.ensures c.seek-b.ensures c.if-a-b.true in (search rules, h.0, h.1, h.2, h.3, h.4)
+link-requires c = let h = asked_in _ _ _ _ _ _ _ _ _ (c.requires.0, c.requires.1, c.requires.2) c.seek-a.ensures c.seek-b.ensures c.if-a-b.true in (h.0, h.1, h.2, h.3, h.4)
 
 pub returns-then-a-b : goal.returns-then-a-b
-returns-then-a-b c = (told_in _ _ _ _ _ _ _ _ _ (c.requires.1, c.requires.2, c.requires.3) c.seek-a.ensures c.seek-b.ensures _ c.link.ensures.0, after (changes _ _ _ _ _ _ _ _ _ (c.requires.1, c.requires.2, c.requires.3) c.seek-a.ensures c.seek-b.ensures) c.link.ensures.1)
+returns-then-a-b c = (told_in _ _ _ _ _ _ _ _ _ (c.requires.0, c.requires.1, c.requires.2) c.seek-a.ensures c.seek-b.ensures _ c.link.ensures.0, after (changes _ _ _ _ _ _ _ _ _ (c.requires.0, c.requires.1, c.requires.2) c.seek-a.ensures c.seek-b.ensures) c.link.ensures.1)
 
 pub link-requires-then-b-a : goal.link-requires-then-b-a
-link-requires-then-b-a c = let h = asked-in' _ _ _ _ _ _ _ _ _ (c.requires.1, c.requires.2, c.requires.3) c.seek-a.ensures c.seek-b.ensures c.if-b-a.true in (search rules, h.0, h.1, h.2, h.3, h.4)
+link-requires-then-b-a c = let h = asked-in' _ _ _ _ _ _ _ _ _ (c.requires.0, c.requires.1, c.requires.2) c.seek-a.ensures c.seek-b.ensures c.if-b-a.true in (h.0, h.1, h.2, h.3, h.4)
 
 pub returns-then-b-a : goal.returns-then-b-a
-returns-then-b-a c = (told-in' _ _ _ _ _ _ _ _ _ (c.requires.1, c.requires.2, c.requires.3) c.seek-a.ensures c.seek-b.ensures _ c.link-then-b-a.ensures.0, after (changes _ _ _ _ _ _ _ _ _ (c.requires.1, c.requires.2, c.requires.3) c.seek-a.ensures c.seek-b.ensures) c.link-then-b-a.ensures.1)
+returns-then-b-a c = (told-in' _ _ _ _ _ _ _ _ _ (c.requires.0, c.requires.1, c.requires.2) c.seek-a.ensures c.seek-b.ensures _ c.link-then-b-a.ensures.0, after (changes _ _ _ _ _ _ _ _ _ (c.requires.0, c.requires.1, c.requires.2) c.seek-a.ensures c.seek-b.ensures) c.link-then-b-a.ensures.1)
 
 pub returns : goal.returns
-returns c = (one_in _ _ _ _ _ _ _ _ _ (c.requires.1, c.requires.2, c.requires.3) c.seek-a.ensures c.seek-b.ensures (omega (arith, c.if-b-a.false, c.if-a-b.false)), changes _ _ _ _ _ _ _ _ _ (c.requires.1, c.requires.2, c.requires.3) c.seek-a.ensures c.seek-b.ensures)
+returns c = (one_in _ _ _ _ _ _ _ _ _ (c.requires.0, c.requires.1, c.requires.2) c.seek-a.ensures c.seek-b.ensures (omega (arith, c.if-b-a.false, c.if-a-b.false)), changes _ _ _ _ _ _ _ _ _ (c.requires.0, c.requires.1, c.requires.2) c.seek-a.ensures c.seek-b.ensures)

@@ -93,28 +93,28 @@ module _ {w rows : List ℕ} {tail a b x y : ℕ} (l : Linking w rows tail a b x
       four-in ku kv e = rw (s.here (length w), s.only.kept PICK (length w) refl, s.only.kept LEFT (length w) refl, s.only.kept RIGHT (length w) refl) (four w (ups w rows) (picks w rows) (lefts w rows) (rights w rows) tail a b x y l.pre l.ex l.ey u v eu ev ku kv e)
 
 pub word-u-requires : goal.word-u-requires
-word-u-requires c = x_in_in ((let here : let a = c.args in Linking a.words.now a.rows.now a.tail a.a a.b c.cell-x.result c.cell-y.result = let q = c.requires in record { pre = (q.1, q.2, q.3, q.4, q.5); ex = c.cell-x.ensures.0 _ (omega arith); ey = c.cell-y.ensures.0 _ q.3 } in here))
+word-u-requires c = x_in_in ((let here : let a = c.args in Linking a.words.now a.rows.now a.tail a.a a.b c.cell-x.result c.cell-y.result = let q = c.requires in record { pre = (q.0, q.1, q.2, q.3, q.4); ex = c.cell-x.ensures.0 _ (omega arith); ey = c.cell-y.ensures.0 _ q.2 } in here))
 
 pub word-v-requires : goal.word-v-requires
-word-v-requires c = y_in_in ((let here : let a = c.args in Linking a.words.now a.rows.now a.tail a.a a.b c.cell-x.result c.cell-y.result = let q = c.requires in record { pre = (q.1, q.2, q.3, q.4, q.5); ex = c.cell-x.ensures.0 _ (omega arith); ey = c.cell-y.ensures.0 _ q.3 } in here))
+word-v-requires c = y_in_in ((let here : let a = c.args in Linking a.words.now a.rows.now a.tail a.a a.b c.cell-x.result c.cell-y.result = let q = c.requires in record { pre = (q.0, q.1, q.2, q.3, q.4); ex = c.cell-x.ensures.0 _ (omega arith); ey = c.cell-y.ensures.0 _ q.2 } in here))
 
 pub returns-then-kv-eq1 : goal.returns-then-kv-eq1
-returns-then-kv-eq1 c = (one_in ((let here : let a = c.args in Linking a.words.now a.rows.now a.tail a.a a.b c.cell-x.result c.cell-y.result = let q = c.requires in record { pre = (q.1, q.2, q.3, q.4, q.5); ex = c.cell-x.ensures.0 _ (omega arith); ey = c.cell-y.ensures.0 _ q.3 } in here)) _ c.put.ensures c.word-u.ensures c.word-v.ensures c.if-kv-eq1.true, changes ((let here : let a = c.args in Linking a.words.now a.rows.now a.tail a.a a.b c.cell-x.result c.cell-y.result = let q = c.requires in record { pre = (q.1, q.2, q.3, q.4, q.5); ex = c.cell-x.ensures.0 _ (omega arith); ey = c.cell-y.ensures.0 _ q.3 } in here)) _ c.put.ensures)
+returns-then-kv-eq1 c = (one_in ((let here : let a = c.args in Linking a.words.now a.rows.now a.tail a.a a.b c.cell-x.result c.cell-y.result = let q = c.requires in record { pre = (q.0, q.1, q.2, q.3, q.4); ex = c.cell-x.ensures.0 _ (omega arith); ey = c.cell-y.ensures.0 _ q.2 } in here)) _ c.put.ensures c.word-u.ensures c.word-v.ensures c.if-kv-eq1.true, changes ((let here : let a = c.args in Linking a.words.now a.rows.now a.tail a.a a.b c.cell-x.result c.cell-y.result = let q = c.requires in record { pre = (q.0, q.1, q.2, q.3, q.4); ex = c.cell-x.ensures.0 _ (omega arith); ey = c.cell-y.ensures.0 _ q.2 } in here)) _ c.put.ensures)
 
 pub returns-then-ku-eq1 : goal.returns-then-ku-eq1
-returns-then-ku-eq1 c = two_in ((let here : let a = c.args in Linking a.words.now a.rows.now a.tail a.a a.b c.cell-x.result c.cell-y.result = let q = c.requires in record { pre = (q.1, q.2, q.3, q.4, q.5); ex = c.cell-x.ensures.0 _ (omega arith); ey = c.cell-y.ensures.0 _ q.3 } in here)) _ c.put.ensures c.word-u.ensures c.word-v.ensures _ c.put-then-ku-eq1.ensures c.if-ku-eq1.true
+returns-then-ku-eq1 c = two_in ((let here : let a = c.args in Linking a.words.now a.rows.now a.tail a.a a.b c.cell-x.result c.cell-y.result = let q = c.requires in record { pre = (q.0, q.1, q.2, q.3, q.4); ex = c.cell-x.ensures.0 _ (omega arith); ey = c.cell-y.ensures.0 _ q.2 } in here)) _ c.put.ensures c.word-u.ensures c.word-v.ensures _ c.put-then-ku-eq1.ensures c.if-ku-eq1.true
 
 pub put-requires-then-u-v : goal.put-requires-then-u-v
-put-requires-then-u-v c = (search rules, free_in ((let here : let a = c.args in Linking a.words.now a.rows.now a.tail a.a a.b c.cell-x.result c.cell-y.result = let q = c.requires in record { pre = (q.1, q.2, q.3, q.4, q.5); ex = c.cell-x.ensures.0 _ (omega arith); ey = c.cell-y.ensures.0 _ q.3 } in here)), search rules, c.cell-x.ensures.1)
+put-requires-then-u-v c = (search rules, free_in ((let here : let a = c.args in Linking a.words.now a.rows.now a.tail a.a a.b c.cell-x.result c.cell-y.result = let q = c.requires in record { pre = (q.0, q.1, q.2, q.3, q.4); ex = c.cell-x.ensures.0 _ (omega arith); ey = c.cell-y.ensures.0 _ q.2 } in here)), c.cell-x.ensures.1)
 
 pub put-requires-then-u-v-2 : goal.put-requires-then-u-v-2
-put-requires-then-u-v-2 c = (search rules, free_in ((let here : let a = c.args in Linking a.words.now a.rows.now a.tail a.a a.b c.cell-x.result c.cell-y.result = let q = c.requires in record { pre = (q.1, q.2, q.3, q.4, q.5); ex = c.cell-x.ensures.0 _ (omega arith); ey = c.cell-y.ensures.0 _ q.3 } in here)), search rules, c.cell-y.ensures.1)
+put-requires-then-u-v-2 c = (search rules, free_in ((let here : let a = c.args in Linking a.words.now a.rows.now a.tail a.a a.b c.cell-x.result c.cell-y.result = let q = c.requires in record { pre = (q.0, q.1, q.2, q.3, q.4); ex = c.cell-x.ensures.0 _ (omega arith); ey = c.cell-y.ensures.0 _ q.2 } in here)), c.cell-y.ensures.1)
 
 pub overflow_add-result : goal.overflow_add-result
-overflow_add-result c = record { fits = omega (arith, free_in ((let here : let a = c.args in Linking a.words.now a.rows.now a.tail a.a a.b c.cell-x.result c.cell-y.result = let q = c.requires in record { pre = (q.1, q.2, q.3, q.4, q.5); ex = c.cell-x.ensures.0 _ (omega arith); ey = c.cell-y.ensures.0 _ q.3 } in here))) }
+overflow_add-result c = record { fits = omega (arith, free_in ((let here : let a = c.args in Linking a.words.now a.rows.now a.tail a.a a.b c.cell-x.result c.cell-y.result = let q = c.requires in record { pre = (q.0, q.1, q.2, q.3, q.4); ex = c.cell-x.ensures.0 _ (omega arith); ey = c.cell-y.ensures.0 _ q.2 } in here))) }
 
 pub returns-then-u-v : goal.returns-then-u-v
-returns-then-u-v c = three-in ((let here : let a = c.args in Linking a.words.now a.rows.now a.tail a.a a.b c.cell-x.result c.cell-y.result = let q = c.requires in record { pre = (q.1, q.2, q.3, q.4, q.5); ex = c.cell-x.ensures.0 _ (omega arith); ey = c.cell-y.ensures.0 _ q.3 } in here)) _ c.put.ensures c.word-u.ensures c.word-v.ensures _ _ c.put-then-u-v.ensures c.put-then-u-v-2.ensures c.if-ku-eq1.false c.if-u-v.true
+returns-then-u-v c = three-in ((let here : let a = c.args in Linking a.words.now a.rows.now a.tail a.a a.b c.cell-x.result c.cell-y.result = let q = c.requires in record { pre = (q.0, q.1, q.2, q.3, q.4); ex = c.cell-x.ensures.0 _ (omega arith); ey = c.cell-y.ensures.0 _ q.2 } in here)) _ c.put.ensures c.word-u.ensures c.word-v.ensures _ _ c.put-then-u-v.ensures c.put-then-u-v-2.ensures c.if-ku-eq1.false c.if-u-v.true
 
 pub returns : goal.returns
-returns c = (four-in ((let here : let a = c.args in Linking a.words.now a.rows.now a.tail a.a a.b c.cell-x.result c.cell-y.result = let q = c.requires in record { pre = (q.1, q.2, q.3, q.4, q.5); ex = c.cell-x.ensures.0 _ (omega arith); ey = c.cell-y.ensures.0 _ q.3 } in here)) _ c.put.ensures c.word-u.ensures c.word-v.ensures c.if-ku-eq1.false c.if-kv-eq1.false c.if-u-v.false, changes ((let here : let a = c.args in Linking a.words.now a.rows.now a.tail a.a a.b c.cell-x.result c.cell-y.result = let q = c.requires in record { pre = (q.1, q.2, q.3, q.4, q.5); ex = c.cell-x.ensures.0 _ (omega arith); ey = c.cell-y.ensures.0 _ q.3 } in here)) _ c.put.ensures)
+returns c = (four-in ((let here : let a = c.args in Linking a.words.now a.rows.now a.tail a.a a.b c.cell-x.result c.cell-y.result = let q = c.requires in record { pre = (q.0, q.1, q.2, q.3, q.4); ex = c.cell-x.ensures.0 _ (omega arith); ey = c.cell-y.ensures.0 _ q.2 } in here)) _ c.put.ensures c.word-u.ensures c.word-v.ensures c.if-ku-eq1.false c.if-kv-eq1.false c.if-u-v.false, changes ((let here : let a = c.args in Linking a.words.now a.rows.now a.tail a.a a.b c.cell-x.result c.cell-y.result = let q = c.requires in record { pre = (q.0, q.1, q.2, q.3, q.4); ex = c.cell-x.ensures.0 _ (omega arith); ey = c.cell-y.ensures.0 _ q.2 } in here)) _ c.put.ensures)

@@ -27,10 +27,10 @@ module _ (n : ℕ) (rows₀ rows : List ℕ) (p q g : ℕ) (flat : Flat (column 
       sym (flat.same g) ∙ ap (root (column UP n rows)) eg' ∙ sym (root-step (column UP n rows) flat.down (get_or (column UP n rows) p 0)) ∙ sym (root-step (column UP n rows) flat.down p) ∙ flat.same p
 
 pub loop-q-init : goal.loop-q-init
-loop-q-init c = (flat_refl _ c.requires.3, c.requires.2, c.cell-q.ensures.0 _ c.requires.2, refl, search rules, same)
+loop-q-init c = (flat_refl _ c.requires.2, c.requires.1, c.cell-q.ensures.0 _ c.requires.1, refl, search rules, same)
 
 pub cell-q-requires-in-loop-q : goal.cell-q-requires-in-loop-q
-cell-q-requires-in-loop-q c = (search rules, omega (arith, small _ _ _ _ _ _ c.loop-q.invariant.0 c.loop-q.invariant.1 c.loop-q.invariant.2 c.loop-q-test.true (c.cell-g.ensures.0 c.args.n (omega arith))), search rules)
+cell-q-requires-in-loop-q c = (search rules, omega (arith, small _ _ _ _ _ _ c.loop-q.invariant.0 c.loop-q.invariant.1 c.loop-q.invariant.2 c.loop-q-test.true (c.cell-g.ensures.0 c.args.n (omega arith))))
 
 pub loop-q-smaller : goal.loop-q-smaller
 loop-q-smaller c = omega (arith, small _ _ _ _ _ _ c.loop-q.invariant.0 c.loop-q.invariant.1 c.loop-q.invariant.2 c.loop-q-test.true (c.cell-g.ensures.0 c.args.n (omega arith)))

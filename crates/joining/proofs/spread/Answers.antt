@@ -39,22 +39,22 @@ finish w e s z x y i k q t = record {
 }
 
 pub loop-i-init : goal.loop-i-init
-loop-i-init c = (search rules, c.arity-k.ensures.0 ∙ ap arity_of c.word.ensures, search rules, search rules, idle _ _ _ c.requires.1 (λ f g j h. absurd (omega arith)), search rules, same)
+loop-i-init c = (search rules, c.arity-k.ensures.0 ∙ ap arity_of c.word.ensures, search rules, search rules, idle _ _ _ c.requires.0 (λ f g j h. absurd (omega arith)), search rules, same)
 
 pub join-t-requires : goal.join-t-requires
-join-t-requires c = (search rules, c.loop-i.invariant.4.ready, in_c _ _ _ _ _ _ _ _ c.requires.2 c.requires.3 c.requires.4 c.requires.5 c.loop-i.invariant.1 c.loop-i-test.true c.loop-i.invariant.2 c.loop-i.invariant.3, in_d _ _ _ _ _ _ _ _ c.requires.2 c.requires.3 c.requires.4 c.requires.5 c.loop-i.invariant.1 c.loop-i-test.true c.loop-i.invariant.2 c.loop-i.invariant.3)
+join-t-requires c = (c.loop-i.invariant.4.ready, in_c _ _ _ _ _ _ _ _ c.requires.1 c.requires.2 c.requires.3 c.requires.4 c.loop-i.invariant.1 c.loop-i-test.true c.loop-i.invariant.2 c.loop-i.invariant.3, in_d _ _ _ _ _ _ _ _ c.requires.1 c.requires.2 c.requires.3 c.requires.4 c.loop-i.invariant.1 c.loop-i-test.true c.loop-i.invariant.2 c.loop-i.invariant.3)
 
 pub returns-then-t-eq-CLASH : goal.returns-then-t-eq-CLASH
 returns-then-t-eq-CLASH c = (record { clash = λ z. fails _ _ _ _ (state [] [] [] [] 0) _ _ _ _ _ _ c.loop-i.invariant.2 c.loop-i.invariant.3 c.loop-i.invariant.4 (omega (arith, c.loop-i.invariant.1, c.loop-i-test.true)) (c.join-t.ensures.0.clash c.if-t-eq-CLASH.true); step = λ n. absurd (n refl) }, after c.loop-i.invariant.6 c.join-t.ensures.1)
 
 pub cell-c-requires : goal.cell-c-requires
-cell-c-requires c = (search rules, omega (arith, c.requires.1.grouped.small, in_c _ _ _ _ _ _ _ _ c.requires.2 c.requires.3 c.requires.4 c.requires.5 c.loop-i.invariant.1 c.loop-i-test.true c.loop-i.invariant.2 c.loop-i.invariant.3), search rules)
+cell-c-requires c = (search rules, omega (arith, c.requires.0.grouped.small, in_c _ _ _ _ _ _ _ _ c.requires.1 c.requires.2 c.requires.3 c.requires.4 c.loop-i.invariant.1 c.loop-i-test.true c.loop-i.invariant.2 c.loop-i.invariant.3))
 
 pub cell-d-requires : goal.cell-d-requires
-cell-d-requires c = (search rules, omega (arith, c.requires.1.grouped.small, in_d _ _ _ _ _ _ _ _ c.requires.2 c.requires.3 c.requires.4 c.requires.5 c.loop-i.invariant.1 c.loop-i-test.true c.loop-i.invariant.2 c.loop-i.invariant.3), search rules)
+cell-d-requires c = (search rules, omega (arith, c.requires.0.grouped.small, in_d _ _ _ _ _ _ _ _ c.requires.1 c.requires.2 c.requires.3 c.requires.4 c.loop-i.invariant.1 c.loop-i-test.true c.loop-i.invariant.2 c.loop-i.invariant.3))
 
 pub loop-i-preserved : goal.loop-i-preserved
-loop-i-preserved c = let o = after c.loop-i.invariant.6 c.join-t.ensures.1 in let w = c.args.words.now in let e = ends w c.args.rows.now in (search rules, c.loop-i.invariant.1, next-argument e c.args.x c.loop-i.i _ _ c.loop-i.invariant.2 (c.cell-c.ensures.0 _ (in_c _ _ _ _ _ _ _ _ c.requires.2 c.requires.3 c.requires.4 c.requires.5 c.loop-i.invariant.1 c.loop-i-test.true c.loop-i.invariant.2 c.loop-i.invariant.3) ∙ ap (λ l. get_or l c.loop-i.c 0) (o.kept END (length w) refl)), next-argument e c.args.y c.loop-i.i _ _ c.loop-i.invariant.3 (c.cell-d.ensures.0 _ (in_d _ _ _ _ _ _ _ _ c.requires.2 c.requires.3 c.requires.4 c.requires.5 c.loop-i.invariant.1 c.loop-i-test.true c.loop-i.invariant.2 c.loop-i.invariant.3) ∙ ap (λ l. get_or l c.loop-i.d 0) (o.kept END (length w) refl)), again _ _ _ _ _ _ _ _ _ _ 0 c.loop-i.invariant.2 c.loop-i.invariant.3 c.loop-i.invariant.4 (c.join-t.ensures.0.step c.if-t-eq-CLASH.false), search rules, o)
+loop-i-preserved c = let o = after c.loop-i.invariant.6 c.join-t.ensures.1 in let w = c.args.words.now in let e = ends w c.args.rows.now in (search rules, c.loop-i.invariant.1, next-argument e c.args.x c.loop-i.i _ _ c.loop-i.invariant.2 (c.cell-c.ensures.0 _ (in_c _ _ _ _ _ _ _ _ c.requires.1 c.requires.2 c.requires.3 c.requires.4 c.loop-i.invariant.1 c.loop-i-test.true c.loop-i.invariant.2 c.loop-i.invariant.3) ∙ ap (λ l. get_or l c.loop-i.c 0) (o.kept END (length w) refl)), next-argument e c.args.y c.loop-i.i _ _ c.loop-i.invariant.3 (c.cell-d.ensures.0 _ (in_d _ _ _ _ _ _ _ _ c.requires.1 c.requires.2 c.requires.3 c.requires.4 c.loop-i.invariant.1 c.loop-i-test.true c.loop-i.invariant.2 c.loop-i.invariant.3) ∙ ap (λ l. get_or l c.loop-i.d 0) (o.kept END (length w) refl)), again _ _ _ _ _ _ _ _ _ _ 0 c.loop-i.invariant.2 c.loop-i.invariant.3 c.loop-i.invariant.4 (c.join-t.ensures.0.step c.if-t-eq-CLASH.false), search rules, o)
 
 pub returns : goal.returns
 returns c = (finish _ _ _ _ _ _ _ _ (omega (arith, c.loop-i.invariant.1)) c.loop-i.invariant.4, c.loop-i.invariant.6)

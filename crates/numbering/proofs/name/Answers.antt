@@ -23,25 +23,25 @@ spared : (rows : List ℕ) (v count x : ℕ) → v < NAMES → count < NAMES →
 spared rows v count x l h = drop-set-lt 16512 (set rows v count) (8256 + count) x (omega arith) ∙ drop-set-lt 16512 rows v count (omega arith)
 
 pub listed-t-requires : goal.listed-t-requires
-listed-t-requires c = (search rules, in_table c.args.words.now c.args.i NAMES _ _ c.word-u.ensures c.if-kind-eq1.true refl c.requires.3, search rules)
+listed-t-requires c = (in_table c.args.words.now c.args.i NAMES _ _ c.word-u.ensures c.if-kind-eq1.true refl c.requires.2, search rules)
 
 pub overflow_cast-words : goal.overflow_cast-words
-overflow_cast-words c = record { fits = omega (arith, c.listed-t.ensures.low, c.requires.2) }
+overflow_cast-words c = record { fits = omega (arith, c.listed-t.ensures.low, c.requires.1) }
 
 pub overflow_add-words : goal.overflow_add-words
-overflow_add-words c = record { fits = omega (arith, c.listed-t.ensures.low, c.requires.2) }
+overflow_add-words c = record { fits = omega (arith, c.listed-t.ensures.low, c.requires.1) }
 
 pub returns-then-t-count : goal.returns-then-t-count
-returns-then-t-count c = record { named = name-old _ _ _ _ _ c.requires.1 c.requires.2 _ c.word-u.ensures _ _ c.if-kind-eq1.true c.listed-t.ensures c.if-t-count.true refl; spare = refl }
+returns-then-t-count c = record { named = name-old _ _ _ _ _ c.requires.0 c.requires.1 _ c.word-u.ensures _ _ c.if-kind-eq1.true c.listed-t.ensures c.if-t-count.true refl; spare = refl }
 
 pub bounds-rows-v : goal.bounds-rows-v
-bounds-rows-v c = omega (arith, in_table c.args.words.now c.args.i NAMES _ _ c.word-u.ensures c.if-kind-eq1.true refl c.requires.3, c.requires.0)
+bounds-rows-v c = omega (arith, in_table c.args.words.now c.args.i NAMES _ _ c.word-u.ensures c.if-kind-eq1.true refl c.requires.2)
 
 pub bounds-rows-count : goal.bounds-rows-count
-bounds-rows-count c = omega (arith, length-set c.args.rows.now (c.word-u.result % 65536) c.args.count, c.requires.0, c.requires.2)
+bounds-rows-count c = omega (arith, length-set c.args.rows.now (c.word-u.result % 65536) c.args.count, c.requires.1)
 
 pub returns-then-kind-eq1 : goal.returns-then-kind-eq1
-returns-then-kind-eq1 c = record { named = new_in _ _ _ _ _ _ _ c.requires.0 c.requires.1 c.requires.2 c.word-u.ensures c.if-kind-eq1.true (in_table c.args.words.now c.args.i NAMES _ _ c.word-u.ensures c.if-kind-eq1.true refl c.requires.3) c.listed-t.ensures c.if-t-count.false refl _ refl; spare = spared c.args.rows.now _ _ _ (in_table c.args.words.now c.args.i NAMES _ _ c.word-u.ensures c.if-kind-eq1.true refl c.requires.3) c.requires.2 }
+returns-then-kind-eq1 c = record { named = new_in _ _ _ _ _ _ _ (search rules) c.requires.0 c.requires.1 c.word-u.ensures c.if-kind-eq1.true (in_table c.args.words.now c.args.i NAMES _ _ c.word-u.ensures c.if-kind-eq1.true refl c.requires.2) c.listed-t.ensures c.if-t-count.false refl _ refl; spare = spared c.args.rows.now _ _ _ (in_table c.args.words.now c.args.i NAMES _ _ c.word-u.ensures c.if-kind-eq1.true refl c.requires.2) c.requires.1 }
 
 pub returns : goal.returns
-returns c = record { named = name-plain c.args.words.now _ _ _ _ c.requires.1 c.requires.2 _ c.word-u.ensures _ c.if-kind-eq1.false c.requires.3; spare = refl }
+returns c = record { named = name-plain c.args.words.now _ _ _ _ c.requires.0 c.requires.1 _ c.word-u.ensures _ c.if-kind-eq1.false c.requires.2; spare = refl }

@@ -6,13 +6,13 @@ use Rattle.outcomes.proofs.Smalls.{furthest-small, small_is}
 use Rattle.picker.proofs.from_formula.Goals as goal
 
 pub choose-requires : goal.choose-requires
-choose-requires c = (c.requires.0, c.requires.1, c.requires.2)
+choose-requires c = (c.requires.0, c.requires.1)
 
 pub picked-requires : goal.picked-requires
-picked-requires c = let x = by_clause (c.choose.ensures _ _ _ _ c.requires.1.1 c.requires.2.3) _ c.in-Clause.is in omega (arith, x.1, c.requires.1.1.held.few)
+picked-requires c = let x = by_clause (c.choose.ensures _ _ _ _ c.requires.0.1 c.requires.1.3) _ c.in-Clause.is in omega (arith, x.1, c.requires.0.1.held.few)
 
 pub stuck-requires : goal.stuck-requires
-stuck-requires c = let x = by-stuck (c.choose.ensures _ _ _ _ c.requires.1.1 c.requires.2.3) _ _ c.in-Stuck.is in let s = small_is x.2 (furthest-small _ c.requires.1.1 c.requires.2.0 c.requires.2.1 c.requires.2.3) in (s.clause, s.argument)
+stuck-requires c = let x = by-stuck (c.choose.ensures _ _ _ _ c.requires.0.1 c.requires.1.3) _ _ c.in-Stuck.is in let s = small_is x.2 (furthest-small _ c.requires.0.1 c.requires.1.0 c.requires.1.1 c.requires.1.3) in (s.clause, s.argument)
 
 pub returns-in-Clause : goal.returns-in-Clause
 returns-in-Clause c = λ P f g n b w. pick_as P f g b w c.choose.result (Clause _) c.in-Clause.is c.picked.ensures (c.choose.ensures P f g n b w)

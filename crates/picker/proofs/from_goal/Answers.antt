@@ -7,7 +7,7 @@ pub returns-then-formulas-eq0 : goal.returns-then-formulas-eq0
 returns-then-formulas-eq0 c = pick-empty c.if-formulas-eq0.true c.picked.ensures
 
 pub from_formula-requires : goal.from_formula-requires
-from_formula-requires c = let s = some-formula c.if-formulas-eq0.false c.requires.1 in (record { words_length = length-replicate {A = ℕ} 8448 0; rows_length = length-replicate {A = ℕ} 30464 0 }, c.requires.0, (s.0, s.1, _, s.2))
+from_formula-requires c = let s = some-formula c.if-formulas-eq0.false c.requires.1 in (c.requires.0, (s.0, s.1, _, s.2))
 
 pub returns : goal.returns
 returns c = pick-formula c.if-formulas-eq0.false c.from_formula.ensures

@@ -44,7 +44,7 @@ pub slice_bounds-apply-end : goal.slice_bounds-apply-end
 slice_bounds-apply-end c = let d = standing c.requires.book_on.4 c.args.i _ _ _ _ c.requires.book_on.6 c.entry-s.ensures.0 c.entry-e.ensures.0 c.entry-t.ensures.0 c.entry-b.ensures.0 in omega (arith, d.within)
 
 pub apply-r-requires : goal.apply-r-requires
-apply-r-requires c = let p = c.requires.book_on.5 in let d = c.extent-m.ensures _ _ _ (goal_part p) in ((_, _, _, _, staged c.requires.book_on.4 c.args.i _ _ _ _ c.requires.book_on.6 c.entry-s.ensures.0 c.entry-e.ensures.0 c.entry-t.ensures.0 c.entry-b.ensures.0 _ _ _ _ _ _ _ p d _ refl), c.requires.store, matched-part c.requires.book_on.4 c.args.i _ _ _ _ c.requires.book_on.6 c.entry-s.ensures.0 c.entry-e.ensures.0 c.entry-t.ensures.0 c.entry-b.ensures.0 c.args.row.now c.extent-m.result (matched-back c.args.row.now c.extent-m.result c.requires.book_on.1 d c.requires.book_on.7))
+apply-r-requires c = let p = c.requires.book_on.5 in let d = c.extent-m.ensures _ _ _ (goal_part p) in ((_, _, _, _, staged c.requires.book_on.4 c.args.i _ _ _ _ c.requires.book_on.6 c.entry-s.ensures.0 c.entry-e.ensures.0 c.entry-t.ensures.0 c.entry-b.ensures.0 _ _ _ _ _ _ _ p d _ refl), matched-part c.requires.book_on.4 c.args.i _ _ _ _ c.requires.book_on.6 c.entry-s.ensures.0 c.entry-e.ensures.0 c.entry-t.ensures.0 c.entry-b.ensures.0 c.args.row.now c.extent-m.result (matched-back c.args.row.now c.extent-m.result c.requires.book_on.1 d c.requires.book_on.7))
 
 pub returns : goal.returns
 returns c = λ P f g a k p l. let d = c.extent-m.ensures f g _ (goal_part p) in c.answer.ensures P f g a _ (c.apply-r.ensures f g a _ (staged k c.args.i _ _ _ _ l c.entry-s.ensures.0 c.entry-e.ensures.0 c.entry-t.ensures.0 c.entry-b.ensures.0 _ _ _ _ f g a p d _ refl))

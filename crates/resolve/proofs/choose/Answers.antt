@@ -8,22 +8,22 @@ use Rattle.resolve.proofs.Advances.{formula-part, matched-front, chosen_none}
 use Rattle.resolve.proofs.choose.Goals as goal
 
 pub extent-m-requires : goal.extent-m-requires
-extent-m-requires c = (_, _, _, c.requires.2.3)
+extent-m-requires c = (_, _, _, c.requires.1.3)
 
 pub slice_bounds-pick-end : goal.slice_bounds-pick-end
-slice_bounds-pick-end c = let p = c.requires.2.3 in omega (arith, first-length _ _ _ _ p _ (c.extent-m.ensures _ _ _ p))
+slice_bounds-pick-end c = let p = c.requires.1.3 in omega (arith, first-length _ _ _ _ p _ (c.extent-m.ensures _ _ _ p))
 
 pub pick-i-requires : goal.pick-i-requires
-pick-i-requires c = let p = c.requires.2.3 in (c.requires.0, (_, formula-part p _ (c.extent-m.ensures _ _ _ p)), (_, c.requires.1.1, omega arith))
+pick-i-requires c = let p = c.requires.1.3 in ((_, formula-part p _ (c.extent-m.ensures _ _ _ p)), (_, c.requires.0.1, omega arith))
 
 pub clauses-requires : goal.clauses-requires
-clauses-requires c = omega (arith, c.requires.1.1.long)
+clauses-requires c = omega (arith, c.requires.0.1.long)
 
 pub slice_bounds-none_fits-end : goal.slice_bounds-none_fits-end
-slice_bounds-none_fits-end c = let p = c.requires.2.3 in omega (arith, first-length _ _ _ _ p _ (c.extent-m.ensures _ _ _ p))
+slice_bounds-none_fits-end c = let p = c.requires.1.3 in omega (arith, first-length _ _ _ _ p _ (c.extent-m.ensures _ _ _ p))
 
 pub none_fits-requires : goal.none_fits-requires
-none_fits-requires c = let p = c.requires.2.3 in (record { words_length = c.pick-i.auto.words ∙ c.requires.0.words_length; rows_length = c.pick-i.auto.rows ∙ c.requires.0.rows_length }, (_, formula-part p _ (c.extent-m.ensures _ _ _ p)), (_, c.requires.1.1))
+none_fits-requires c = let p = c.requires.1.3 in ((_, formula-part p _ (c.extent-m.ensures _ _ _ p)), (_, c.requires.0.1))
 
 pub returns-then-clauses-i : goal.returns-then-clauses-i
 returns-then-clauses-i c = λ P f g n b p. let q = formula-part p _ (c.extent-m.ensures f g n p) in let z = (c.pick-i.ensures f P q b).0.none (omega (arith, c.if-clauses-i.true, c.clauses.ensures _ b.long)) in chosen_none c.none_fits.result z (c.none_fits.ensures f P q b z)

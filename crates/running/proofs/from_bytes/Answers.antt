@@ -20,7 +20,7 @@ asked : {query : List ℕ} → Bytes query → Askable query → {row : List ℕ
 asked {query} bytes a h = record { held = h; numbered = (goal_premises (goal_of query) (goal_of-good a.book query bytes a.good).0).1 }
 
 pub from_goal-e-requires : goal.from_goal-e-requires
-from_goal-e-requires c = (omega (arith, c.open_row-opened.auto, length-replicate {A = ℕ} 8448 0), omega (arith, c.open_row-opened.ensures.within, c.open_row-opened.auto, length-replicate {A = ℕ} 8448 0), (book_of _, c.open_book-clauses.ensures.on), (goal_of _, asked (λ i. omega (arith, c.shared_slice_known-2-1.given i)) c.requires.good.askable c.open_row-opened.ensures.holds), c.requires.book_len_bound.1)
+from_goal-e-requires c = (omega (arith, c.open_row-opened.ensures.within, c.open_row-opened.auto, length-replicate {A = ℕ} 8448 0), (book_of _, c.open_book-clauses.ensures.on), (goal_of _, asked (λ i. omega (arith, c.shared_slice_known-2-1.given i)) c.requires.good.askable c.open_row-opened.ensures.holds))
 
 pub overflow_add-m : goal.overflow_add-m
 overflow_add-m c = let s = last-short (c.from_goal-e.ensures _ _ c.open_book-clauses.ensures.on (asked (λ i. omega (arith, c.shared_slice_known-2-1.given i)) c.requires.good.askable c.open_row-opened.ensures.holds)) in omega (arith, s.0, s.1)

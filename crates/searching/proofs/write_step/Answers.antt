@@ -13,7 +13,7 @@ pub slice_bounds-advance-end : goal.slice_bounds-advance-end
 slice_bounds-advance-end c = inv (length-take-le (c.args.start.place.words + c.args.start.place.answer) c.args.goal.now (start-within c.requires.by_index.4))
 
 pub advance-requires : goal.advance-requires
-advance-requires c = let z = sided c.requires.by_index.4 _ (c.args.start.place.words + c.args.start.place.answer) refl refl in record { store = (record { words_length = length-replicate {A = ℕ} 8448 0; rows_length = c.requires.rows_len.0; out_length = c.requires.rows_len.1 }, c.requires.rows_len.2, c.requires.rows_len.3); row_in = ((_, c.requires.by_index.3), (_, _, _, z.held, z.answers, z.first)) }
+advance-requires c = let z = sided c.requires.by_index.4 _ (c.args.start.place.words + c.args.start.place.answer) refl refl in record { cells_len = c.requires.cells_len; row_in = ((_, c.requires.by_index.3), (_, _, _, z.held, z.answers, z.first)) }
 
 pub returns : goal.returns
 returns c = record { says = (λ P q saved b y. let z = sided y _ (c.args.start.place.words + c.args.start.place.answer) refl refl in c.advance.ensures.advanced P _ _ _ b z.held z.answers z.first); free = c.advance.ensures.free }

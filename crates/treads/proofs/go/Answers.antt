@@ -14,7 +14,7 @@ pub returns-then-formulas-gt512 : goal.returns-then-formulas-gt512
 returns-then-formulas-gt512 c = fore-same
 
 pub sized-size-requires : goal.sized-size-requires
-sized-size-requires c = (c.requires.0, c.requires.1, c.requires.3)
+sized-size-requires c = (c.requires.0, c.requires.2)
 
 pub returns-then-size-eq-OVER : goal.returns-then-size-eq-OVER
 returns-then-size-eq-OVER c = c.sized-size.ensures.levels
@@ -26,7 +26,7 @@ pub overflow_add-body : goal.overflow_add-body
 overflow_add-body c = record { fits = omega (arith, c.requires.0.7.short, span-few c.requires.0.7, c.requires.0.7.placed.begins, c.requires.0.7.placed.ends) }
 
 pub entered-w-requires : goal.entered-w-requires
-entered-w-requires c = let u = under_way-fore c.requires.0.7 c.sized-size.ensures.levels in record { valids = (stands-valid u, u.fitted.more.made.short, stands-front u, held-due u.held, stands-body u); levels = (stands-levels u, c.requires.2, u.held.levels_long) }
+entered-w-requires c = let u = under_way-fore c.requires.0.7 c.sized-size.ensures.levels in record { valids = (stands-valid u, u.fitted.more.made.short, stands-front u, held-due u.held, stands-body u); levels = (stands-levels u, c.requires.1, u.held.levels_long) }
 
 pub overflow_add-result : goal.overflow_add-result
 overflow_add-result c = let b = c.sized-size.ensures.bounds c.if-size-eq-OVER.false _ _ _ _ _ _ _ (under_way-fore c.requires.0.7 c.sized-size.ensures.levels) in record { fits = omega (arith, b.few, c.requires.0.7.room) }

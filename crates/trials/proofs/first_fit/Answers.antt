@@ -11,31 +11,25 @@ pub clauses-all-requires : goal.clauses-all-requires
 clauses-all-requires c = omega (arith, c.requires.fronted.0.1.long)
 
 pub word-u-requires : goal.word-u-requires
-word-u-requires c = omega (arith, c.requires.words_len.0)
+word-u-requires c = omega arith
 
 pub find-i-requires : goal.find-i-requires
 find-i-requires c = (_, c.requires.fronted.0.1, omega arith)
 
 pub loop-i-init : goal.loop-i-init
-loop-i-init c = (omega (arith, (c.find-i.ensures _ c.requires.fronted.0.1).high, c.clauses-all.ensures _ c.requires.fronted.0.1.long), c.requires.words_len.0, c.requires.words_len.1, c.requires.words_len.2, c.requires.words_len.3, refl, (λ P f g a o x. passed_on o x c.word-u.ensures (c.find-i.ensures P o) (λ j b l. absurd (omega (arith, l)))), λ P o. (c.find-i.ensures P o).here)
+loop-i-init c = (omega (arith, (c.find-i.ensures _ c.requires.fronted.0.1).high, c.clauses-all.ensures _ c.requires.fronted.0.1.long), (search rules), c.requires.cells_len.0, (search rules), c.requires.cells_len.1, refl, (λ P f g a o x. passed_on o x c.word-u.ensures (c.find-i.ensures P o) (λ j b l. absurd (omega (arith, l)))), λ P o. (c.find-i.ensures P o).here)
 
 pub try_clause-requires : goal.try_clause-requires
-try_clause-requires c = record { words_len = (c.loop-i.invariant.1, c.loop-i.invariant.2, c.loop-i.invariant.3, c.loop-i.invariant.4); fronted = ((_, c.requires.fronted.0.1, omega (arith, c.loop-i-test.true, c.clauses-all.ensures _ c.requires.fronted.0.1.long)), (_, _, _, (fronted_still c.requires.fronted.1.3 c.loop-i.words c.loop-i.invariant.5 (c.loop-i.invariant.1 ∙ inv c.requires.words_len.0)))) }
+try_clause-requires c = record { cells_len = (c.loop-i.invariant.2, c.loop-i.invariant.4); fronted = ((_, c.requires.fronted.0.1, omega (arith, c.loop-i-test.true, c.clauses-all.ensures _ c.requires.fronted.0.1.long)), (_, _, _, (fronted_still c.requires.fronted.1.3 c.loop-i.words c.loop-i.invariant.5 (search rules)))) }
 
 pub enum_known-count : goal.enum_known-count
 enum_known-count c = search rules
 
-pub shape_of-words-in-Fits : goal.shape_of-words-in-Fits
-shape_of-words-in-Fits c = c.try_clause.auto.words ∙ c.loop-i.invariant.1 ∙ inv c.requires.words_len.0
-
 pub shape_of-cells-in-Fits : goal.shape_of-cells-in-Fits
-shape_of-cells-in-Fits c = c.try_clause.auto.cells ∙ c.loop-i.invariant.2 ∙ inv c.requires.words_len.1
-
-pub shape_of-rows-in-Fits : goal.shape_of-rows-in-Fits
-shape_of-rows-in-Fits c = c.try_clause.auto.rows ∙ c.loop-i.invariant.3 ∙ inv c.requires.words_len.2
+shape_of-cells-in-Fits c = c.try_clause.auto.cells ∙ c.loop-i.invariant.2 ∙ inv c.requires.cells_len.0
 
 pub returns-in-Fits : goal.returns-in-Fits
-returns-in-Fits c = λ P f g a o x. let l : c.loop-i.i < length P = omega (arith, c.loop-i-test.true, c.clauses-all.ensures _ o.long) in found_here P f c.args.book.now c.args.shelf.now (take c.args.n c.loop-i.words) (take c.args.n c.args.words.now) c.try_clause.new.words c.try_clause.new.cells c.try_clause.new.rows c.args.n c.loop-i.i c.try_clause.result (c.try_clause.ensures.tested P f g a o l (fronted_still x c.loop-i.words c.loop-i.invariant.5 (c.loop-i.invariant.1 ∙ inv c.requires.words_len.0))) _ c.in-Fits.is c.loop-i.invariant.5 l (c.loop-i.invariant.6 P f g a o x)
+returns-in-Fits c = λ P f g a o x. let l : c.loop-i.i < length P = omega (arith, c.loop-i-test.true, c.clauses-all.ensures _ o.long) in found_here P f c.args.book.now c.args.shelf.now (take c.args.n c.loop-i.words) (take c.args.n c.args.words.now) c.try_clause.new.words c.try_clause.new.cells c.try_clause.new.rows c.args.n c.loop-i.i c.try_clause.result (c.try_clause.ensures.tested P f g a o l (fronted_still x c.loop-i.words c.loop-i.invariant.5 (search rules))) _ c.in-Fits.is c.loop-i.invariant.5 l (c.loop-i.invariant.6 P f g a o x)
 
 pub enum_told-1 : goal.enum_told-1
 enum_told-1 c = search rules
@@ -47,31 +41,19 @@ pub loop-i-smaller : goal.loop-i-smaller
 loop-i-smaller c = omega (arith, (found_after (λ P o. c.clauses-all.ensures _ o.long) c.loop-i-test.true c.loop-i.invariant.7 c.find_next-i.ensures _ c.requires.fronted.0.1).low, c.loop-i-test.true)
 
 pub loop-i-preserved : goal.loop-i-preserved
-loop-i-preserved c = let y = found_after (λ P o. c.clauses-all.ensures _ o.long) c.loop-i-test.true c.loop-i.invariant.7 c.find_next-i.ensures in (omega (arith, (y _ c.requires.fronted.0.1).high, c.clauses-all.ensures _ c.requires.fronted.0.1.long), c.try_clause.auto.words ∙ c.loop-i.invariant.1, c.try_clause.auto.cells ∙ c.loop-i.invariant.2, c.try_clause.auto.rows ∙ c.loop-i.invariant.3, freed_clash c.requires.fronted.0.0 c.requires.fronted.1.0 c.args.book.now c.args.shelf.now (take c.args.n c.loop-i.words) (take c.args.n c.args.words.now) c.try_clause.new.words c.try_clause.new.cells c.try_clause.new.rows c.args.n c.loop-i.i c.try_clause.result (c.try_clause.ensures.tested c.requires.fronted.0.0 _ _ _ c.requires.fronted.0.1 (omega (arith, c.loop-i-test.true, c.clauses-all.ensures _ c.requires.fronted.0.1.long)) (fronted_still c.requires.fronted.1.3 c.loop-i.words c.loop-i.invariant.5 (c.loop-i.invariant.1 ∙ inv c.requires.words_len.0))) c.in-Clash.is, c.try_clause.ensures.row ∙ c.loop-i.invariant.5, (λ P f g a o x. let l : c.loop-i.i < length P = omega (arith, c.loop-i-test.true, c.clauses-all.ensures _ o.long) in passed_on o x c.word-u.ensures (y P o) (passed_here P f c.args.book.now c.args.shelf.now (take c.args.n c.loop-i.words) (take c.args.n c.args.words.now) c.try_clause.new.words c.try_clause.new.cells c.try_clause.new.rows c.args.n c.loop-i.i c.try_clause.result (c.try_clause.ensures.tested P f g a o l (fronted_still x c.loop-i.words c.loop-i.invariant.5 (c.loop-i.invariant.1 ∙ inv c.requires.words_len.0))) c.in-Clash.is (c.loop-i.invariant.6 P f g a o x) (suc c.loop-i.i) (omega arith))), λ P o. (y P o).here)
+loop-i-preserved c = let y = found_after (λ P o. c.clauses-all.ensures _ o.long) c.loop-i-test.true c.loop-i.invariant.7 c.find_next-i.ensures in (omega (arith, (y _ c.requires.fronted.0.1).high, c.clauses-all.ensures _ c.requires.fronted.0.1.long), search rules, c.try_clause.auto.cells ∙ c.loop-i.invariant.2, search rules, freed_clash c.requires.fronted.0.0 c.requires.fronted.1.0 c.args.book.now c.args.shelf.now (take c.args.n c.loop-i.words) (take c.args.n c.args.words.now) c.try_clause.new.words c.try_clause.new.cells c.try_clause.new.rows c.args.n c.loop-i.i c.try_clause.result (c.try_clause.ensures.tested c.requires.fronted.0.0 _ _ _ c.requires.fronted.0.1 (omega (arith, c.loop-i-test.true, c.clauses-all.ensures _ c.requires.fronted.0.1.long)) (fronted_still c.requires.fronted.1.3 c.loop-i.words c.loop-i.invariant.5 (search rules))) c.in-Clash.is, c.try_clause.ensures.row ∙ c.loop-i.invariant.5, (λ P f g a o x. let l : c.loop-i.i < length P = omega (arith, c.loop-i-test.true, c.clauses-all.ensures _ o.long) in passed_on o x c.word-u.ensures (y P o) (passed_here P f c.args.book.now c.args.shelf.now (take c.args.n c.loop-i.words) (take c.args.n c.args.words.now) c.try_clause.new.words c.try_clause.new.cells c.try_clause.new.rows c.args.n c.loop-i.i c.try_clause.result (c.try_clause.ensures.tested P f g a o l (fronted_still x c.loop-i.words c.loop-i.invariant.5 (search rules))) c.in-Clash.is (c.loop-i.invariant.6 P f g a o x) (suc c.loop-i.i) (omega arith))), λ P o. (y P o).here)
 
 pub enum_told-in-Tired : goal.enum_told-in-Tired
 enum_told-in-Tired c = search rules
 
-pub shape_of-words-in-Tired : goal.shape_of-words-in-Tired
-shape_of-words-in-Tired c = c.try_clause.auto.words ∙ c.loop-i.invariant.1 ∙ inv c.requires.words_len.0
-
 pub shape_of-cells-in-Tired : goal.shape_of-cells-in-Tired
-shape_of-cells-in-Tired c = c.try_clause.auto.cells ∙ c.loop-i.invariant.2 ∙ inv c.requires.words_len.1
-
-pub shape_of-rows-in-Tired : goal.shape_of-rows-in-Tired
-shape_of-rows-in-Tired c = c.try_clause.auto.rows ∙ c.loop-i.invariant.3 ∙ inv c.requires.words_len.2
+shape_of-cells-in-Tired c = c.try_clause.auto.cells ∙ c.loop-i.invariant.2 ∙ inv c.requires.cells_len.0
 
 pub returns-in-Tired : goal.returns-in-Tired
-returns-in-Tired c = λ P f g a o x. let l : c.loop-i.i < length P = omega (arith, c.loop-i-test.true, c.clauses-all.ensures _ o.long) in freed_tired P f c.args.book.now c.args.shelf.now (take c.args.n c.loop-i.words) (take c.args.n c.args.words.now) c.try_clause.new.words c.try_clause.new.cells c.try_clause.new.rows c.args.n c.loop-i.i c.try_clause.result (c.try_clause.ensures.tested P f g a o l (fronted_still x c.loop-i.words c.loop-i.invariant.5 (c.loop-i.invariant.1 ∙ inv c.requires.words_len.0))) c.in-Tired.is
-
-pub shape_of-words : goal.shape_of-words
-shape_of-words c = c.loop-i.invariant.1 ∙ inv c.requires.words_len.0
+returns-in-Tired c = λ P f g a o x. let l : c.loop-i.i < length P = omega (arith, c.loop-i-test.true, c.clauses-all.ensures _ o.long) in freed_tired P f c.args.book.now c.args.shelf.now (take c.args.n c.loop-i.words) (take c.args.n c.args.words.now) c.try_clause.new.words c.try_clause.new.cells c.try_clause.new.rows c.args.n c.loop-i.i c.try_clause.result (c.try_clause.ensures.tested P f g a o l (fronted_still x c.loop-i.words c.loop-i.invariant.5 (search rules))) c.in-Tired.is
 
 pub shape_of-cells : goal.shape_of-cells
-shape_of-cells c = c.loop-i.invariant.2 ∙ inv c.requires.words_len.1
-
-pub shape_of-rows : goal.shape_of-rows
-shape_of-rows c = c.loop-i.invariant.3 ∙ inv c.requires.words_len.2
+shape_of-cells c = c.loop-i.invariant.2 ∙ inv c.requires.cells_len.0
 
 pub returns : goal.returns
 returns c = λ P f g a o x. c.loop-i.invariant.4

@@ -36,16 +36,16 @@ module _ (w rows x y z : List ℕ) (t : Flat (ups w rows) (ups w x)) (o : Only (
         (rw (noughts.kept END (length w) refl, noughts.kept UP (length w) refl, noughts.kept PICK (length w) refl, noughts.kept FIRST ROWS refl, o.kept END (length w) refl, o.kept PICK (length w) refl, o.kept FIRST ROWS refl) (trial-flat t c)))
 
 pub flatten-requires : goal.flatten-requires
-flatten-requires c = (search rules, c.requires.1.grouped.small, c.requires.1.grouped.down)
+flatten-requires c = (c.requires.grouped.small, c.requires.grouped.down)
 
 pub clear-requires : goal.clear-requires
-clear-requires c = (search rules, c.requires.1.grouped.small, search rules)
+clear-requires c = (search rules, c.requires.grouped.small)
 
 pub clear-requires-2 : goal.clear-requires-2
-clear-requires-2 c = (search rules, c.requires.1.grouped.small, search rules)
+clear-requires-2 c = (search rules, c.requires.grouped.small)
 
 pub settle-requires : goal.settle-requires
-settle-requires c = (search rules, search-in _ _ _ _ _ c.flatten.ensures.0 c.flatten.ensures.1 c.clear.ensures.1 c.clear-2.ensures.1 c.requires.1 c.clear.ensures.0 c.clear-2.ensures.0)
+settle-requires c = search-in _ _ _ _ _ c.flatten.ensures.0 c.flatten.ensures.1 c.clear.ensures.1 c.clear-2.ensures.1 c.requires c.clear.ensures.0 c.clear-2.ensures.0
 
 pub returns : goal.returns
 returns c = (checked-in _ _ _ _ _ c.flatten.ensures.0 c.flatten.ensures.1 c.clear.ensures.1 c.clear-2.ensures.1 _ c.settle.result c.settle.ensures.1 c.settle.ensures.0, changes _ _ _ _ _ c.flatten.ensures.0 c.flatten.ensures.1 c.clear.ensures.1 c.clear-2.ensures.1 _ c.settle.result c.settle.ensures.1 c.settle.ensures.0)

@@ -6,7 +6,7 @@ use borrow.Author.Rules.{rules}
 use Rattle.unifier.proofs.argument.Goals as goal
 
 pub acyclic-requires : goal.acyclic-requires
-acyclic-requires c = (search rules, c.equate-equal.ensures.0 c.if-equal.true)
+acyclic-requires c = c.equate-equal.ensures.0 c.if-equal.true
 
 pub returns-then-equal : goal.returns-then-equal
 returns-then-equal c = ((λ m j t ec ed. argued (c.acyclic.ensures.0 _ _ ((c.equate-equal.ensures.1 m j t ec ed).held c.if-equal.true))), after (wider (UP ∷ PICK ∷ LEFT ∷ RIGHT ∷ RANK ∷ []) refl c.equate-equal.ensures.2) (wider (UP ∷ PICK ∷ LEFT ∷ RIGHT ∷ RANK ∷ []) refl c.acyclic.ensures.1))

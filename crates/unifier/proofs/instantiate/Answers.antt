@@ -60,7 +60,7 @@ pub loop-i-init : goal.loop-i-init
 loop-i-init c = (begin c.args.words.now (ends c.args.words.now c.args.rows.now) (ups c.args.words.now c.args.rows.now) (picks c.args.words.now c.args.rows.now) (ranks c.args.words.now c.args.rows.now) (firsts c.args.rows.now) c.args.src.now c.args.out.now, search rules, same)
 
 pub emit-at-requires : goal.emit-at-requires
-emit-at-requires c = (search rules, solved-in _ _ _ c.loop-i.invariant.2 c.requires.1, omega (arith, c.requires.2, c.loop-i.invariant.0.1), within c.args.words.now (ends c.args.words.now c.args.rows.now) (ups c.args.words.now c.args.rows.now) (picks c.args.words.now c.args.rows.now) (ranks c.args.words.now c.args.rows.now) (firsts c.args.rows.now) c.args.src.now c.args.out.now _ _ _ c.loop-i.invariant.0, rw c.word-u.ensures (c.requires.3 c.loop-i.i c.loop-i-test.true))
+emit-at-requires c = (solved-in _ _ _ c.loop-i.invariant.2 c.requires.0, omega (arith, c.requires.1, c.loop-i.invariant.0.1), within c.args.words.now (ends c.args.words.now c.args.rows.now) (ups c.args.words.now c.args.rows.now) (picks c.args.words.now c.args.rows.now) (ranks c.args.words.now c.args.rows.now) (firsts c.args.rows.now) c.args.src.now c.args.out.now _ _ _ c.loop-i.invariant.0, rw c.word-u.ensures (c.requires.2 c.loop-i.i c.loop-i-test.true))
 
 pub returns-then-at-eq-CLASH : goal.returns-then-at-eq-CLASH
 returns-then-at-eq-CLASH c = (stop c.args.words.now (ends c.args.words.now c.args.rows.now) (ups c.args.words.now c.args.rows.now) (picks c.args.words.now c.args.rows.now) (ranks c.args.words.now c.args.rows.now) (firsts c.args.rows.now) c.args.src.now c.args.out.now _ _ _ _ c.loop-i.invariant.0 c.loop-i-test.true c.word-u.ensures _ _ (emitted c.args.words.now _ _ c.loop-i.invariant.2 _ _ _ _ _ _ c.emit-at.ensures.0) c.if-at-eq-CLASH.true, after c.loop-i.invariant.2 c.emit-at.ensures.1)

@@ -3,14 +3,13 @@ use mathlib.Core.Path.{◌≡◌}
 use lib.ListN.{length}
 use Rattle.search.specs.Next.{Book}
 use Rattle.words.specs.Held.{BookOn}
-use Rattle.picking.specs.Picking.{Bench}
 use Rattle.weighing.specs.Stuck.{figured}
 use Rattle.picking.proofs.Picks.{Begins}
 use Rattle.weighing.proofs.Weighs.{Foremost}
 use Rattle.weighing.proofs.furthest.Given as goal
 
 abbrev pub invariant-loop-i : goal.invariant-loop-i
-invariant-loop-i l = (l.i ≤ l.n) × ((P : Book) → BookOn l.book l.shelf P → l.n ≡ length P) × Bench l.words l.rows × Foremost l.formula l.book l.shelf l.i (figured l.best) × Begins l.book l.shelf l.u l.i
+invariant-loop-i l = (l.i ≤ l.n) × ((P : Book) → BookOn l.book l.shelf P → l.n ≡ length P) × Foremost l.formula l.book l.shelf l.i (figured l.best) × Begins l.book l.shelf l.u l.i
 
 abbrev pub decreases-loop-i : goal.decreases-loop-i
 decreases-loop-i l = l.n - l.i

@@ -12,10 +12,10 @@ root-up : (up : List ℕ) (p q s : ℕ) → Down up → q ≡ get_or up p 0 → 
 root-up up p q s d e h = rw e (sym (root-step up d p) ∙ h)
 
 pub loop-q-init : goal.loop-q-init
-loop-q-init c = (search rules, c.cell-q.ensures.0 _ c.requires.2, refl)
+loop-q-init c = (search rules, c.cell-q.ensures.0 _ c.requires.1, refl)
 
 pub loop-q-preserved : goal.loop-q-preserved
-loop-q-preserved c = (search rules, c.cell-q-in-loop-q.ensures.0 c.args.n (omega arith), root-up _ _ _ _ c.requires.3 c.loop-q.invariant.1 c.loop-q.invariant.2)
+loop-q-preserved c = (search rules, c.cell-q-in-loop-q.ensures.0 c.args.n (omega arith), root-up _ _ _ _ c.requires.2 c.loop-q.invariant.1 c.loop-q.invariant.2)
 
 pub returns : goal.returns
-returns c = sym (root_self _ c.requires.3 c.loop-q.p (omega (arith, c.requires.3 c.loop-q.p))) ∙ c.loop-q.invariant.2
+returns c = sym (root_self _ c.requires.2 c.loop-q.p (omega (arith, c.requires.2 c.loop-q.p))) ∙ c.loop-q.invariant.2

@@ -45,13 +45,13 @@ pub loop-p-init : goal.loop-p-init
 loop-p-init c = (search rules, search rules, (λ q h i. absurd (omega arith)), same)
 
 pub walk-e-requires : goal.walk-e-requires
-walk-e-requires c = (search rules, search rules, λ i x. inside c.args.words.now (ends c.args.words.now c.loop-p.rows) (c.loop-p.p - 1) c.requires.2 (omega arith) (column-length END _ _) (λ q y. c.loop-p.invariant.2 q (omega arith)) i (omega (arith, x, c.arity-k.ensures.0 ∙ ap arity_of c.word.ensures)))
+walk-e-requires c = (search rules, λ i x. inside c.args.words.now (ends c.args.words.now c.loop-p.rows) (c.loop-p.p - 1) c.requires.1 (omega arith) (column-length END _ _) (λ q y. c.loop-p.invariant.2 q (omega arith)) i (omega (arith, x, c.arity-k.ensures.0 ∙ ap arity_of c.word.ensures)))
 
 pub put-requires : goal.put-requires
-put-requires c = (search rules, omega arith, search rules, omega (arith, c.requires.1, low c.args.words.now c.loop-p.rows (c.loop-p.p - 1) _ _ c.requires.2 (omega arith) (λ q y. c.loop-p.invariant.2 q (omega arith)) (c.arity-k.ensures.0 ∙ ap arity_of c.word.ensures) c.walk-e.ensures))
+put-requires c = (search rules, omega arith, omega (arith, c.requires.0, low c.args.words.now c.loop-p.rows (c.loop-p.p - 1) _ _ c.requires.1 (omega arith) (λ q y. c.loop-p.invariant.2 q (omega arith)) (c.arity-k.ensures.0 ∙ ap arity_of c.word.ensures) c.walk-e.ensures))
 
 pub loop-p-preserved : goal.loop-p-preserved
-loop-p-preserved c = (search rules, search rules, again-in c.args.words.now c.loop-p.rows (c.loop-p.p - 1) _ _ c.requires.2 (omega arith) (λ q y. c.loop-p.invariant.2 q (omega arith)) (c.arity-k.ensures.0 ∙ ap arity_of c.word.ensures) c.walk-e.ensures _ c.put.ensures, after c.loop-p.invariant.3 c.put.ensures.only)
+loop-p-preserved c = (search rules, search rules, again-in c.args.words.now c.loop-p.rows (c.loop-p.p - 1) _ _ c.requires.1 (omega arith) (λ q y. c.loop-p.invariant.2 q (omega arith)) (c.arity-k.ensures.0 ∙ ap arity_of c.word.ensures) c.walk-e.ensures _ c.put.ensures, after c.loop-p.invariant.3 c.put.ensures.only)
 
 pub returns : goal.returns
 returns c = ((λ q h. c.loop-p.invariant.2 q (omega arith) h), c.loop-p.invariant.3)

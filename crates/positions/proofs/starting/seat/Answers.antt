@@ -61,22 +61,22 @@ module _ {w rows x : List ℕ} {p u : ℕ} (t : Seating w rows x p u) where
           (left y z (set (firsts rows) (u % 65536) p) p f.only s (f.here 4352 ∙ ap (λ l. set l (u % 65536) p) (t.own.only.kept FIRST ROWS refl)) (new n), changes y z p f.only s)
 
 pub cell-q-requires : goal.cell-q-requires
-cell-q-requires c = (search rules, in_f ((let here : let a = c.args in Seating a.words.now a.rows.now c.put.new.rows a.p c.word-w.result = let q = c.requires in record { ok = q.1; l = q.2; sl = q.3; eu = c.word-w.ensures; own = c.put.ensures } in here)) c.if-kind-eq1.true, search rules)
+cell-q-requires c = (search rules, in_f ((let here : let a = c.args in Seating a.words.now a.rows.now c.put.new.rows a.p c.word-w.result = let q = c.requires in record { ok = q.0; l = q.1; sl = q.2; eu = c.word-w.ensures; own = c.put.ensures } in here)) c.if-kind-eq1.true)
 
 pub returns-then-u-w : goal.returns-then-u-w
-returns-then-u-w c = (left ((let here : let a = c.args in Seating a.words.now a.rows.now c.put.new.rows a.p c.word-w.result = let q = c.requires in record { ok = q.1; l = q.2; sl = q.3; eu = c.word-w.ensures; own = c.put.ensures } in here)) _ _ _ _ same c.put-then-u-w.ensures (c.put.ensures.only.kept FIRST ROWS refl) (seen ((let here : let a = c.args in Seating a.words.now a.rows.now c.put.new.rows a.p c.word-w.result = let q = c.requires in record { ok = q.1; l = q.2; sl = q.3; eu = c.word-w.ensures; own = c.put.ensures } in here)) c.if-kind-eq1.true _ (c.cell-q.ensures.0 _ (in_f ((let here : let a = c.args in Seating a.words.now a.rows.now c.put.new.rows a.p c.word-w.result = let q = c.requires in record { ok = q.1; l = q.2; sl = q.3; eu = c.word-w.ensures; own = c.put.ensures } in here)) c.if-kind-eq1.true)) _ c.if-q-p.true c.word-u.ensures c.if-u-w.true), changes ((let here : let a = c.args in Seating a.words.now a.rows.now c.put.new.rows a.p c.word-w.result = let q = c.requires in record { ok = q.1; l = q.2; sl = q.3; eu = c.word-w.ensures; own = c.put.ensures } in here)) _ _ _ same c.put-then-u-w.ensures)
+returns-then-u-w c = (left ((let here : let a = c.args in Seating a.words.now a.rows.now c.put.new.rows a.p c.word-w.result = let q = c.requires in record { ok = q.0; l = q.1; sl = q.2; eu = c.word-w.ensures; own = c.put.ensures } in here)) _ _ _ _ same c.put-then-u-w.ensures (c.put.ensures.only.kept FIRST ROWS refl) (seen ((let here : let a = c.args in Seating a.words.now a.rows.now c.put.new.rows a.p c.word-w.result = let q = c.requires in record { ok = q.0; l = q.1; sl = q.2; eu = c.word-w.ensures; own = c.put.ensures } in here)) c.if-kind-eq1.true _ (c.cell-q.ensures.0 _ (in_f ((let here : let a = c.args in Seating a.words.now a.rows.now c.put.new.rows a.p c.word-w.result = let q = c.requires in record { ok = q.0; l = q.1; sl = q.2; eu = c.word-w.ensures; own = c.put.ensures } in here)) c.if-kind-eq1.true)) _ c.if-q-p.true c.word-u.ensures c.if-u-w.true), changes ((let here : let a = c.args in Seating a.words.now a.rows.now c.put.new.rows a.p c.word-w.result = let q = c.requires in record { ok = q.0; l = q.1; sl = q.2; eu = c.word-w.ensures; own = c.put.ensures } in here)) _ _ _ same c.put-then-u-w.ensures)
 
 pub put-requires-then-q-p : goal.put-requires-then-q-p
-put-requires-then-q-p c = (search rules, in_f ((let here : let a = c.args in Seating a.words.now a.rows.now c.put.new.rows a.p c.word-w.result = let q = c.requires in record { ok = q.1; l = q.2; sl = q.3; eu = c.word-w.ensures; own = c.put.ensures } in here)) c.if-kind-eq1.true, search rules, omega (arith, c.requires.1.small, c.requires.2))
+put-requires-then-q-p c = (search rules, in_f ((let here : let a = c.args in Seating a.words.now a.rows.now c.put.new.rows a.p c.word-w.result = let q = c.requires in record { ok = q.0; l = q.1; sl = q.2; eu = c.word-w.ensures; own = c.put.ensures } in here)) c.if-kind-eq1.true, omega (arith, c.requires.0.small, c.requires.1))
 
 pub returns-then-q-p : goal.returns-then-q-p
-returns-then-q-p c = new_in ((let here : let a = c.args in Seating a.words.now a.rows.now c.put.new.rows a.p c.word-w.result = let q = c.requires in record { ok = q.1; l = q.2; sl = q.3; eu = c.word-w.ensures; own = c.put.ensures } in here)) c.if-kind-eq1.true _ (c.cell-q.ensures.0 _ (in_f ((let here : let a = c.args in Seating a.words.now a.rows.now c.put.new.rows a.p c.word-w.result = let q = c.requires in record { ok = q.1; l = q.2; sl = q.3; eu = c.word-w.ensures; own = c.put.ensures } in here)) c.if-kind-eq1.true)) _ _ c.put-then-q-p.ensures c.put-then-q-p-2.ensures (λ l e. c.if-u-w.false (c.word-u.ensures ∙ e ∙ sym c.word-w.ensures))
+returns-then-q-p c = new_in ((let here : let a = c.args in Seating a.words.now a.rows.now c.put.new.rows a.p c.word-w.result = let q = c.requires in record { ok = q.0; l = q.1; sl = q.2; eu = c.word-w.ensures; own = c.put.ensures } in here)) c.if-kind-eq1.true _ (c.cell-q.ensures.0 _ (in_f ((let here : let a = c.args in Seating a.words.now a.rows.now c.put.new.rows a.p c.word-w.result = let q = c.requires in record { ok = q.0; l = q.1; sl = q.2; eu = c.word-w.ensures; own = c.put.ensures } in here)) c.if-kind-eq1.true)) _ _ c.put-then-q-p.ensures c.put-then-q-p-2.ensures (λ l e. c.if-u-w.false (c.word-u.ensures ∙ e ∙ sym c.word-w.ensures))
 
 pub put-requires-then-kind-eq1 : goal.put-requires-then-kind-eq1
-put-requires-then-kind-eq1 c = (search rules, in_f ((let here : let a = c.args in Seating a.words.now a.rows.now c.put.new.rows a.p c.word-w.result = let q = c.requires in record { ok = q.1; l = q.2; sl = q.3; eu = c.word-w.ensures; own = c.put.ensures } in here)) c.if-kind-eq1.true, search rules, omega (arith, c.requires.1.small, c.requires.2))
+put-requires-then-kind-eq1 c = (search rules, in_f ((let here : let a = c.args in Seating a.words.now a.rows.now c.put.new.rows a.p c.word-w.result = let q = c.requires in record { ok = q.0; l = q.1; sl = q.2; eu = c.word-w.ensures; own = c.put.ensures } in here)) c.if-kind-eq1.true, omega (arith, c.requires.0.small, c.requires.1))
 
 pub returns-then-kind-eq1 : goal.returns-then-kind-eq1
-returns-then-kind-eq1 c = new_in ((let here : let a = c.args in Seating a.words.now a.rows.now c.put.new.rows a.p c.word-w.result = let q = c.requires in record { ok = q.1; l = q.2; sl = q.3; eu = c.word-w.ensures; own = c.put.ensures } in here)) c.if-kind-eq1.true _ (c.cell-q.ensures.0 _ (in_f ((let here : let a = c.args in Seating a.words.now a.rows.now c.put.new.rows a.p c.word-w.result = let q = c.requires in record { ok = q.1; l = q.2; sl = q.3; eu = c.word-w.ensures; own = c.put.ensures } in here)) c.if-kind-eq1.true)) _ _ c.put-then-kind-eq1.ensures c.put-then-kind-eq1-2.ensures (λ l e. omega (arith, l, c.if-q-p.false))
+returns-then-kind-eq1 c = new_in ((let here : let a = c.args in Seating a.words.now a.rows.now c.put.new.rows a.p c.word-w.result = let q = c.requires in record { ok = q.0; l = q.1; sl = q.2; eu = c.word-w.ensures; own = c.put.ensures } in here)) c.if-kind-eq1.true _ (c.cell-q.ensures.0 _ (in_f ((let here : let a = c.args in Seating a.words.now a.rows.now c.put.new.rows a.p c.word-w.result = let q = c.requires in record { ok = q.0; l = q.1; sl = q.2; eu = c.word-w.ensures; own = c.put.ensures } in here)) c.if-kind-eq1.true)) _ _ c.put-then-kind-eq1.ensures c.put-then-kind-eq1-2.ensures (λ l e. omega (arith, l, c.if-q-p.false))
 
 pub returns : goal.returns
-returns c = (left ((let here : let a = c.args in Seating a.words.now a.rows.now c.put.new.rows a.p c.word-w.result = let q = c.requires in record { ok = q.1; l = q.2; sl = q.3; eu = c.word-w.ensures; own = c.put.ensures } in here)) _ _ _ _ same c.put-2.ensures (c.put.ensures.only.kept FIRST ROWS refl) (bare ((let here : let a = c.args in Seating a.words.now a.rows.now c.put.new.rows a.p c.word-w.result = let q = c.requires in record { ok = q.1; l = q.2; sl = q.3; eu = c.word-w.ensures; own = c.put.ensures } in here)) c.if-kind-eq1.false), changes ((let here : let a = c.args in Seating a.words.now a.rows.now c.put.new.rows a.p c.word-w.result = let q = c.requires in record { ok = q.1; l = q.2; sl = q.3; eu = c.word-w.ensures; own = c.put.ensures } in here)) _ _ _ same c.put-2.ensures)
+returns c = (left ((let here : let a = c.args in Seating a.words.now a.rows.now c.put.new.rows a.p c.word-w.result = let q = c.requires in record { ok = q.0; l = q.1; sl = q.2; eu = c.word-w.ensures; own = c.put.ensures } in here)) _ _ _ _ same c.put-2.ensures (c.put.ensures.only.kept FIRST ROWS refl) (bare ((let here : let a = c.args in Seating a.words.now a.rows.now c.put.new.rows a.p c.word-w.result = let q = c.requires in record { ok = q.0; l = q.1; sl = q.2; eu = c.word-w.ensures; own = c.put.ensures } in here)) c.if-kind-eq1.false), changes ((let here : let a = c.args in Seating a.words.now a.rows.now c.put.new.rows a.p c.word-w.result = let q = c.requires in record { ok = q.0; l = q.1; sl = q.2; eu = c.word-w.ensures; own = c.put.ensures } in here)) _ _ _ same c.put-2.ensures)

@@ -7,7 +7,7 @@ pub loop-p-init : goal.loop-p-init
 loop-p-init c = (search rules, search rules, (λ x h. absurd (omega arith)), same)
 
 pub seat-requires : goal.seat-requires
-seat-requires c = (search rules, c.requires.1, c.loop-p-test.true, c.loop-p.invariant.2)
+seat-requires c = (c.requires, c.loop-p-test.true, c.loop-p.invariant.2)
 
 pub loop-p-preserved : goal.loop-p-preserved
 loop-p-preserved c = (search rules, search rules, c.seat.ensures.0, after c.loop-p.invariant.3 c.seat.ensures.1)

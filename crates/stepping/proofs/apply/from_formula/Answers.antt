@@ -5,13 +5,10 @@ use borrow.Author.Rules.{rules}
 use Rattle.stepping.proofs.apply.from_formula.Goals as goal
 
 pub apply_number-requires : goal.apply_number-requires
-apply_number-requires c = record { store = c.requires.store; goal_in = (c.requires.in_bounds.1, c.requires.in_bounds.2) }
+apply_number-requires c = record { goal_in = (c.requires.in_bounds.1, c.requires.in_bounds.2) }
 
 pub slice_bounds-put_goal-end : goal.slice_bounds-put_goal-end
-slice_bounds-put_goal-end c = went-room c.requires.in_bounds.1 _ _ c.apply_number.ensures c.in-To.is c.requires.in_bounds.2
-
-pub slice_bounds-put_goal-end-in-To : goal.slice_bounds-put_goal-end-in-To
-slice_bounds-put_goal-end-in-To c = inv (length-take-le _ _ (went-room c.requires.in_bounds.1 _ _ c.apply_number.ensures c.in-To.is c.requires.in_bounds.2))
+slice_bounds-put_goal-end c = inv (length-take-le _ _ (went-room c.requires.in_bounds.1 _ _ c.apply_number.ensures c.in-To.is c.requires.in_bounds.2))
 
 pub put_goal-bytes-requires : goal.put_goal-bytes-requires
 put_goal-bytes-requires c = let h = went-goal c.requires.in_bounds.1 _ _ c.apply_number.ensures c.in-To.is c.requires.in_bounds.2 in record { in_bounds = search rules; by_index = (4096, h.0, h.1) }

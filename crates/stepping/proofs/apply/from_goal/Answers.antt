@@ -15,7 +15,7 @@ pub returns-then-clauses-call : goal.returns-then-clauses-call
 returns-then-clauses-call c = gives-absent c.args.call.clause c.if-call-eq0.false (λ P b. omega (arith, c.if-clauses-call.true, c.clauses.ensures _ b.long)) _ c.no_step-then-clauses-call.ensures
 
 pub from_formula-requires : goal.from_formula-requires
-from_formula-requires c = let p = c.requires in record { store = record { words_length = length-replicate {A = ℕ} 8448 0; rows_length = length-replicate {A = ℕ} 30464 0; out_length = length-replicate {A = ℕ} 8192 0 }; in_bounds = (p.0, (p.1.0, p.1.1, omega (arith, c.if-clauses-call.false, c.clauses.ensures _ p.1.1.long)), some-formula c.if-call-eq0.false p.2) }
+from_formula-requires c = let p = c.requires in record { in_bounds = (p.0, (p.1.0, p.1.1, omega (arith, c.if-clauses-call.false, c.clauses.ensures _ p.1.1.long)), some-formula c.if-call-eq0.false p.2) }
 
 pub returns : goal.returns
 returns c = gives-formula c.args.call.clause c.if-call-eq0.false _ c.from_formula.ensures

@@ -1,3 +1,4 @@
+use borrow.Author.Rules.{rules}
 use native.Mathlib.Omega.{arith}
 use mathlib.Core.Path.{refl, ◌∙◌}
 use lib.ListN.{drop, length-drop}
@@ -36,16 +37,16 @@ pub slice_bounds-weight_of-count-2 : goal.slice_bounds-weight_of-count-2
 slice_bounds-weight_of-count-2 c = omega arith
 
 pub slice_bounds-weight_of-end-2 : goal.slice_bounds-weight_of-end-2
-slice_bounds-weight_of-end-2 c = omega (arith, c.requires.1)
+slice_bounds-weight_of-end-2 c = omega arith
 
 pub weight_of-requires : goal.weight_of-requires
-weight_of-requires c = let l = put_mid 514 514 c.args.levels.now c.body_adds-more.new.levels in record { made = (c.requires.0.7.fitted.more.made, record { each = c.requires.0.7.fitted.undoable.trailed.held }); in_bounds = (omega (arith, length-take-le 514 (drop 514 l) (omega (arith, length-drop 514 l, same_len_mid 514 514 c.args.levels.now c.body_adds-more.new.levels c.body_adds-more.auto.levels, c.requires.0.7.held.levels_long))), omega (arith, trail_long c.args.rows.now c.requires.1, c.requires.0.7.fitted.undoable.few), c.requires.0.7.fitted.undoable.few) }
+weight_of-requires c = let l = put_mid 514 514 c.args.levels.now c.body_adds-more.new.levels in record { made = (c.requires.0.7.fitted.more.made, record { each = c.requires.0.7.fitted.undoable.trailed.held }); in_bounds = (omega (arith, length-take-le 514 (drop 514 l) (omega (arith, length-drop 514 l, same_len_mid 514 514 c.args.levels.now c.body_adds-more.new.levels c.body_adds-more.auto.levels, c.requires.0.7.held.levels_long))), omega (arith, trail_long c.args.rows.now (search rules), c.requires.0.7.fitted.undoable.few), c.requires.0.7.fitted.undoable.few) }
 
 pub grown_by-requires : goal.grown_by-requires
-grown_by-requires c = let x = c.body_adds-more.ensures _ _ _ _ _ _ _ _ _ _ c.requires.0.7 in let y = (c.in-Some.ensures _ c.requires.2) in record { variables_bound = (c.requires.0.7.held.variables_room, c.requires.0.7.held.often_room, c.requires.0.7.held.goal_room, c.requires.0.7.held.answer_room, known-most c.body_adds-more.result.nodes 256 (omega arith) x.small, x.spread, c.requires.0.7.fitted.undoable.few); le_nodes = (y.grown.some, omega (arith, y.grown.low), y.grown.few, y.room) }
+grown_by-requires c = let x = c.body_adds-more.ensures _ _ _ _ _ _ _ _ _ _ c.requires.0.7 in let y = (c.in-Some.ensures _ c.requires.1) in record { variables_bound = (c.requires.0.7.held.variables_room, c.requires.0.7.held.often_room, c.requires.0.7.held.goal_room, c.requires.0.7.held.answer_room, known-most c.body_adds-more.result.nodes 256 (omega arith) x.small, x.spread, c.requires.0.7.fitted.undoable.few); le_nodes = (y.grown.some, omega (arith, y.grown.low), y.grown.few, y.room) }
 
 pub returns-in_default-clause-levels : goal.returns-in_default-clause-levels
 returns-in_default-clause-levels c = let l = put_mid 514 514 c.args.levels.now c.body_adds-more.new.levels in fore-after (fore-part c.args.levels.now c.body_adds-more.new.levels c.requires.0.7.held.levels_long c.body_adds-more.auto.levels) (fore-part l c.weight_of.new.levels (same_len_mid 514 514 c.args.levels.now c.body_adds-more.new.levels c.body_adds-more.auto.levels ∙ c.requires.0.7.held.levels_long) c.weight_of.auto.levels)
 
 pub returns : goal.returns
-returns c = let l = put_mid 514 514 c.args.levels.now c.body_adds-more.new.levels in record { levels = fore-after (fore-part c.args.levels.now c.body_adds-more.new.levels c.requires.0.7.held.levels_long c.body_adds-more.auto.levels) (fore-part l c.weight_of.new.levels (same_len_mid 514 514 c.args.levels.now c.body_adds-more.new.levels c.body_adds-more.auto.levels ∙ c.requires.0.7.held.levels_long) c.weight_of.auto.levels); bounds = λ n book words before f g a d v. bounds_hold v c.in-Some.grown (c.in-Some.ensures _ c.requires.2) c.body_adds-more.result (c.body_adds-more.ensures _ _ _ _ _ _ _ _ _ _ v) c.grown_by.result (c.grown_by.ensures n) }
+returns c = let l = put_mid 514 514 c.args.levels.now c.body_adds-more.new.levels in record { levels = fore-after (fore-part c.args.levels.now c.body_adds-more.new.levels c.requires.0.7.held.levels_long c.body_adds-more.auto.levels) (fore-part l c.weight_of.new.levels (same_len_mid 514 514 c.args.levels.now c.body_adds-more.new.levels c.body_adds-more.auto.levels ∙ c.requires.0.7.held.levels_long) c.weight_of.auto.levels); bounds = λ n book words before f g a d v. bounds_hold v c.in-Some.grown (c.in-Some.ensures _ c.requires.1) c.body_adds-more.result (c.body_adds-more.ensures _ _ _ _ _ _ _ _ _ _ v) c.grown_by.result (c.grown_by.ensures n) }

@@ -14,7 +14,7 @@ pub slice_bounds-undo-end : goal.slice_bounds-undo-end
 slice_bounds-undo-end c = search rules
 
 pub undo-requires : goal.undo-requires
-undo-requires c = (omega (arith, trail_long c.args.rows.now c.requires.1, c.requires.2.few), c.requires.2.trailed.inside)
+undo-requires c = (omega (arith, trail_long c.args.rows.now (search rules), c.requires.1.few), c.requires.1.trailed.inside)
 
 pub clear-requires : goal.clear-requires
 clear-requires c = c.undo.auto.cells ∙ c.requires.0
@@ -23,4 +23,4 @@ pub shape_of-cells : goal.shape_of-cells
 shape_of-cells c = search rules
 
 pub returns : goal.returns
-returns c = c.clear.ensures (λ v l. c.undo.ensures.undone c.requires.2.before 8192 c.requires.2.trailed v l ∙ c.requires.2.free v)
+returns c = c.clear.ensures (λ v l. c.undo.ensures.undone c.requires.1.before 8192 c.requires.1.trailed v l ∙ c.requires.1.free v)

@@ -14,18 +14,12 @@ write-body-requires c =
     record {
       made = (k.made.0, r.0, r.1);
       by_index = (_, no_names _ _);
-      cells_len_bound = (omega (arith, k.cells_len.0), k.cells_len.1, omega (arith, k.cells_len.2));
-      count_le_at = (omega arith, omega arith, omega arith, omega arith, omega (arith, k.cells_len.3));
+      cells_len_bound = (omega (arith, k.cells_len.0), omega (arith, k.cells_len.1));
+      count_le_at = (omega arith, omega arith, omega arith, omega arith, omega arith);
     }
 
 pub shape_of-levels-then-body-gt4096 : goal.shape_of-levels-then-body-gt4096
 shape_of-levels-then-body-gt4096 c = search rules
-
-pub shape_of-rows-then-body-gt4096 : goal.shape_of-rows-then-body-gt4096
-shape_of-rows-then-body-gt4096 c = search rules
-
-pub shape_of-out-then-body-gt4096 : goal.shape_of-out-then-body-gt4096
-shape_of-out-then-body-gt4096 c = search rules
 
 pub returns-then-body-gt4096 : goal.returns-then-body-gt4096
 returns-then-body-gt4096 c = record { put = put-over c.args.p c.write-body.ensures.written c.rows_at-first.ensures c.if-body-gt4096.true; spare = c.write-body.ensures.spare }
@@ -42,18 +36,12 @@ write-requires c =
     record {
       made = (k.made.0, r.0, r.1);
       by_index = named-then c.args.p x c.rows_at-first.ensures (omega (arith, l)) _ (no_names _ _) k.made.1.0 k.made.1.1;
-      cells_len_bound = (omega (arith, k.cells_len.0), c.write-body.auto.rows ∙ k.cells_len.1, omega (arith, c.write-body.auto.levels, k.cells_len.2));
-      count_le_at = (x.few (omega (arith, l)), omega (arith, l), omega arith, omega arith, omega (arith, c.write-body.auto.out, k.cells_len.3));
+      cells_len_bound = (omega (arith, k.cells_len.0), omega (arith, c.write-body.auto.levels, k.cells_len.1));
+      count_le_at = (x.few (omega (arith, l)), omega (arith, l), omega arith, omega arith, omega arith);
     }
 
 pub shape_of-levels : goal.shape_of-levels
 shape_of-levels c = search rules
-
-pub shape_of-rows : goal.shape_of-rows
-shape_of-rows c = search rules
-
-pub shape_of-out : goal.shape_of-out
-shape_of-out c = search rules
 
 pub returns : goal.returns
 returns c = record { put = put_both c.args.p c.write-body.ensures.written c.rows_at-first.ensures (omega (arith, c.if-body-gt4096.false)) c.write.ensures.written c.rows_at-second.ensures; spare = c.write.ensures.spare ∙ c.write-body.ensures.spare }

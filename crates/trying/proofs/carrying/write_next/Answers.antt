@@ -21,8 +21,8 @@ write-all-requires c =
     record {
       made = (k.made.0, r.0, r.1);
       by_index = goal-named c.args.p y c.if-goal-eq-OVER.false c.if-goal-eq-TIRED.false k.made.1.0 k.made.1.1;
-      cells_len_bound = (omega (arith, k.cells_len.0), w.auto.rows ∙ k.cells_len.1, omega (arith, w.auto.levels, length-replicate {A = ℕ} 514 0));
-      count_le_at = (y.few l, omega arith, omega arith, omega (arith, l), omega (arith, l, w.auto.out, k.cells_len.2));
+      cells_len_bound = (omega (arith, k.cells_len), omega (arith, w.auto.levels, length-replicate {A = ℕ} 514 0));
+      count_le_at = (y.few l, omega arith, omega arith, omega (arith, l), omega (arith, l));
     }
 
 pub returns-then-all-eq-OVER : goal.returns-then-all-eq-OVER

@@ -36,19 +36,19 @@ module _ (w e up pick rank first : List ℕ) (u : ℕ) (v : Valid u) where
       (widened (Of w) Some (λ x e. inl e) o at (resolved w e up pick rank q) z r p)
 
 pub write-requires : goal.write-requires
-write-requires c = (search rules, c.requires.1, c.requires.2, c.requires.3, c.if-q-words.true)
+write-requires c = (c.requires.0, c.requires.1, c.requires.2, c.if-q-words.true)
 
 pub returns-then-q-words : goal.returns-then-q-words
-returns-then-q-words c = (bound c.args.words.now (ends c.args.words.now c.args.rows.now) (ups c.args.words.now c.args.rows.now) (picks c.args.words.now c.args.rows.now) (ranks c.args.words.now c.args.rows.now) (firsts c.args.rows.now) c.args.u c.requires.4 _ _ _ _ _ c.if-kind-eq1.true c.bound_at-q.ensures c.if-q-words.true c.write.ensures.0, c.write.ensures.1)
+returns-then-q-words c = (bound c.args.words.now (ends c.args.words.now c.args.rows.now) (ups c.args.words.now c.args.rows.now) (picks c.args.words.now c.args.rows.now) (ranks c.args.words.now c.args.rows.now) (firsts c.args.rows.now) c.args.u c.requires.3 _ _ _ _ _ c.if-kind-eq1.true c.bound_at-q.ensures c.if-q-words.true c.write.ensures.0, c.write.ensures.1)
 
 pub copy-requires : goal.copy-requires
-copy-requires c = omega (arith, c.requires.2)
+copy-requires c = omega (arith, c.requires.1)
 
 pub returns-then-kind-eq1 : goal.returns-then-kind-eq1
-returns-then-kind-eq1 c = (loose c.args.words.now (ends c.args.words.now c.args.rows.now) (ups c.args.words.now c.args.rows.now) (picks c.args.words.now c.args.rows.now) (ranks c.args.words.now c.args.rows.now) (firsts c.args.rows.now) c.args.u c.requires.4 _ _ _ _ _ c.if-kind-eq1.true c.bound_at-q.ensures c.if-q-words.false c.copy.ensures, same)
+returns-then-kind-eq1 c = (loose c.args.words.now (ends c.args.words.now c.args.rows.now) (ups c.args.words.now c.args.rows.now) (picks c.args.words.now c.args.rows.now) (ranks c.args.words.now c.args.rows.now) (firsts c.args.rows.now) c.args.u c.requires.3 _ _ _ _ _ c.if-kind-eq1.true c.bound_at-q.ensures c.if-q-words.false c.copy.ensures, same)
 
 pub copy-requires-2 : goal.copy-requires-2
-copy-requires-2 c = omega (arith, c.requires.2)
+copy-requires-2 c = omega (arith, c.requires.1)
 
 pub returns : goal.returns
-returns c = (plain c.args.words.now (ends c.args.words.now c.args.rows.now) (ups c.args.words.now c.args.rows.now) (picks c.args.words.now c.args.rows.now) (ranks c.args.words.now c.args.rows.now) (firsts c.args.rows.now) c.args.u c.requires.4 _ _ _ _ c.if-kind-eq1.false c.copy-2.ensures, same)
+returns c = (plain c.args.words.now (ends c.args.words.now c.args.rows.now) (ups c.args.words.now c.args.rows.now) (picks c.args.words.now c.args.rows.now) (ranks c.args.words.now c.args.rows.now) (firsts c.args.rows.now) c.args.u c.requires.3 _ _ _ _ c.if-kind-eq1.false c.copy-2.ensures, same)

@@ -25,13 +25,13 @@ pub loop-i-init : goal.loop-i-init
 loop-i-init c = (search rules, search rules, search rules, (λ j h. absurd (omega arith)), (λ j h. refl), same)
 
 pub put-requires : goal.put-requires
-put-requires c = (search rules, omega arith, search rules, omega (arith, c.loop-i.invariant.2, c.requires.4 c.loop-i.i c.loop-i-test.true))
+put-requires c = (search rules, omega arith, omega (arith, c.loop-i.invariant.2, c.requires.3 c.loop-i.i c.loop-i-test.true))
 
 pub cell-c-requires : goal.cell-c-requires
-cell-c-requires c = (search rules, omega (arith, c.loop-i.invariant.2, c.requires.4 c.loop-i.i c.loop-i-test.true), search rules)
+cell-c-requires c = (search rules, omega (arith, c.loop-i.invariant.2, c.requires.3 c.loop-i.i c.loop-i-test.true))
 
 pub loop-i-preserved : goal.loop-i-preserved
-loop-i-preserved c = let o = after c.loop-i.invariant.5 c.put.ensures.only in let h : c.loop-i.c < c.args.n = omega (arith, c.loop-i.invariant.2, c.requires.4 c.loop-i.i c.loop-i-test.true) in (search rules, search rules, next-argument (column END c.args.n c.args.rows.now) c.args.x c.loop-i.i _ _ c.loop-i.invariant.2 (c.cell-c.ensures.0 _ h ∙ ap (λ l. get_or l c.loop-i.c 0) (o.kept END _ refl)), more _ _ _ _ _ _ _ _ c.loop-i-test.true c.requires.1 c.loop-i.invariant.2 c.put.ensures c.loop-i.invariant.3, kept _ _ _ _ _ _ _ _ c.loop-i-test.true c.requires.1 c.loop-i.invariant.2 c.put.ensures (stacks c.args.rows.now) c.loop-i.invariant.4, o)
+loop-i-preserved c = let o = after c.loop-i.invariant.5 c.put.ensures.only in let h : c.loop-i.c < c.args.n = omega (arith, c.loop-i.invariant.2, c.requires.3 c.loop-i.i c.loop-i-test.true) in (search rules, search rules, next-argument (column END c.args.n c.args.rows.now) c.args.x c.loop-i.i _ _ c.loop-i.invariant.2 (c.cell-c.ensures.0 _ h ∙ ap (λ l. get_or l c.loop-i.c 0) (o.kept END _ refl)), more _ _ _ _ _ _ _ _ c.loop-i-test.true c.requires.0 c.loop-i.invariant.2 c.put.ensures c.loop-i.invariant.3, kept _ _ _ _ _ _ _ _ c.loop-i-test.true c.requires.0 c.loop-i.invariant.2 c.put.ensures (stacks c.args.rows.now) c.loop-i.invariant.4, o)
 
 pub returns : goal.returns
 returns c = (record { new = λ i h. c.loop-i.invariant.3 i (omega (arith, h, c.loop-i-test.false)); old = c.loop-i.invariant.4 }, c.loop-i.invariant.5)
