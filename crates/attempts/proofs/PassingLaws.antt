@@ -3,6 +3,9 @@ use Prim.Native.Nat.{ℕ, suc, ◌+◌, ◌-◌, ◌<◌, ◌≤◌}
 use native.Mathlib.Omega.{arith}
 use native.Mathlib.Decide.{ℕ_discrete, dec_lt}
 use mathlib.Core.Path.{◌≡◌, refl, sym as inv, ap, ◌∙◌, subst}
+use mathlib.Core.Bool.{true≢false}
+use Rattle.std.specs.declared.option.Option.{Option}
+use Rattle.std.specs.declared.option.Option.TheVariants.{None, Some}
 use mathlib.Core.List.{List, [], ◌∷◌, ◌++◌, append-nil}
 use lib.ListN.{length, get_or, drop}
 use lib.Seq.{get_or-take, get_or-drop}
@@ -51,13 +54,13 @@ some-arity {v} {r = r} ew er n = let z : r ≡ arity_of v = er ∙ ap arity_of e
 
 -- What is said of the first argument.
 module _ {heap cells : List ℕ} {at : ℕ} where
-  pub lead-bare : arity_of (get_or heap at 0) ≡ 0 → Lead heap cells at 0
+  pub lead-bare : arity_of (get_or heap at 0) ≡ 0 → Lead heap cells at None
   lead-bare e = record {
     place = 0;
     reached = λ l. absurd (omega (arith, e, l));
-    some = λ n. absurd (n refl);
-    symbol = λ n. absurd (n refl);
-    plain = λ n. absurd (n refl);
+    some = λ n. absurd (true≢false (inv n));
+    symbol = tt;
+    plain = tt;
     none = λ z l. absurd (omega (arith, e, l));
   }
 
@@ -65,24 +68,24 @@ module _ {heap cells : List ℕ} {at : ℕ} where
     here : Followed heap cells (suc at) q
     here = let e : at + 1 ≡ suc at = omega arith in subst (λ p. Followed heap cells p q) e f
 
-    pub lead-variable : x < 33554432 → Lead heap cells at 0
+    pub lead-variable : x < 33554432 → Lead heap cells at None
     lead-variable l = record {
       place = q;
       reached = λ s. here;
-      some = λ n. absurd (n refl);
-      symbol = λ n. absurd (n refl);
-      plain = λ n. absurd (n refl);
+      some = λ n. absurd (true≢false (inv n));
+      symbol = tt;
+      plain = tt;
       none = λ z s. omega (arith, is, l, (made.fits q here.row.inside).valid.low);
     }
 
-    pub lead-symbol : 33554432 ≤ x → Lead heap cells at x
+    pub lead-symbol : 33554432 ≤ x → Lead heap cells at (Some x)
     lead-symbol l = record {
       place = q;
       reached = λ s. here;
       some = λ n. some;
-      symbol = λ n. is;
-      plain = λ n z. omega (arith, z, l);
-      none = λ z s. absurd (omega (arith, z, l));
+      symbol = is;
+      plain = λ z. omega (arith, z, l);
+      none = λ z s. absurd (true≢false z);
     }
 
 -- the words of a head, of one symbol and arguments
@@ -115,18 +118,18 @@ module _ (head : List ℕ) (k : ℕ) (c : Clause) (q : ClauseIn head k 0 (headed
       )
 
 -- what the row stands for begins with its symbol, and then with the first argument's
-module _ {heap cells : List ℕ} {at x : ℕ} (led : Lead heap cells at x) (known : x ≡ 0 → ⊥) (made : Made heap cells) (whole : Whole heap 1 at) where
+module _ {heap cells : List ℕ} {at x : ℕ} (led : Lead heap cells at (Some x)) (made : Made heap cells) (whole : Whole heap 1 at) where
   valids-heap : Valids heap
   valids-heap i l = (made.fits i l).valid
 
   some-heap : 0 < arity_of (get_or heap at 0)
-  some-heap = led.some known
+  some-heap = led.some refl
 
   there : Followed heap cells (suc at) led.place
   there = led.reached some-heap
 
   pub lead-valid : Valid x
-  lead-valid = subst Valid (inv (led.symbol known)) (valids-heap led.place there.row.inside)
+  lead-valid = subst Valid (inv (led.symbol)) (valids-heap led.place there.row.inside)
 
   row-second : (θ : Subst) → Solves heap cells θ → (e : Expr) × (apply θ (rows heap 1 at) ≡ node (get_or heap at 0) ∷ (node x ∷ e))
   row-second θ s =
@@ -139,23 +142,23 @@ module _ {heap cells : List ℕ} {at x : ℕ} (led : Lead heap cells at x) (know
         tail,
         stands-sym heap at inner θ (valids-heap at inner) (symbol-first heap at valids-heap whole some-heap) e
             ∙ ap (λ l. node (get_or heap at 0) ∷ l) (ap (apply θ) (rows-first heap k (suc at) (arguments heap at valids-heap whole some-heap) refl) ∙ apply-append θ (rows heap 1 (suc at)) rest
-            ∙ ap (λ l. l ++ apply θ rest) (there.row.same θ s ∙ stands-sym heap led.place there.row.inside θ (valids-heap led.place there.row.inside) (λ z. led.plain known (ap kind_of (led.symbol known) ∙ z)) refl)
-            ∙ ap (λ n. node n ∷ tail) (inv (led.symbol known))),
+            ∙ ap (λ l. l ++ apply θ rest) (there.row.same θ s ∙ stands-sym heap led.place there.row.inside θ (valids-heap led.place there.row.inside) (λ z. led.plain (ap kind_of (led.symbol) ∙ z)) refl)
+            ∙ ap (λ n. node n ∷ tail) (inv (led.symbol))),
       )
 
   -- a head that begins with the same symbol, and then with another one
   pub other_none : {θ : Subst} → Solves heap cells θ → {f : Expr} → number [] (apply θ (rows heap 1 at)) ≡ f
-      → (head : List ℕ) (k : ℕ) (c : Clause) → ClauseIn head k 0 (headed c) → get_or head 0 0 ≡ get_or heap at 0 → Other x (get_or head 1 0) → Meets f c → ⊥
+      → (head : List ℕ) (k : ℕ) (c : Clause) → ClauseIn head k 0 (headed c) → get_or head 0 0 ≡ get_or heap at 0 → Other (Some x) (get_or head 1 0) → Meets f c → ⊥
   other_none {θ} s is head k c q same o t =
       let u = get_or heap at 0 in
       let y = get_or head 1 0 in
       let some : 0 < arity_of (get_or head 0 0) = subst (λ w. 0 < arity_of w) (inv same) some-heap in
       let plain = symbol-first heap at valids-heap whole some-heap in
       let (e, l) = row-second θ s in
-      let (h, r) = head-second head k c q some o.plain in
+      let (h, r) = head-second head k c q some o.0 in
       let (ρ, equal) = made-equal is t l (r ∙ ap (λ w. node w ∷ (node y ∷ h)) same) in
       let m = rest-same t.unifier t.goal_names ρ t.clause_names u u (node x ∷ e) (node y ∷ h) plain plain equal in
-      o.differ (inv (node_inj x y lead-valid (second-valid head k c q some) (first-same t.unifier t.goal_names ρ t.clause_names x y e h (led.plain known) o.plain m)))
+      o.1 (inv (node_inj x y lead-valid (second-valid head k c q some) (first-same t.unifier t.goal_names ρ t.clause_names x y e h led.plain o.0 m)))
 
 -- The clause number i, whose head begins with u, a symbol of some arguments.
 module _ {book shelf : List ℕ} {P : Book} (o : BookOn book shelf P) (i : ℕ) (l : i < length P) where
@@ -193,10 +196,10 @@ module _ {book shelf : List ℕ} {P : Book} (o : BookOn book shelf P) (i : ℕ) 
 
 -- From clause to clause.
 
-pub another : {x y w : ℕ} → w ≡ y → (x ≡ 0 → ⊥) → 33554432 ≤ y → (y ≡ x → ⊥) → Other x w
-another is n h d = record { known = n; plain = λ z. omega (arith, is, h, z); differ = λ e. d (inv is ∙ e) }
+pub another : {x y w : ℕ} → w ≡ y → 33554432 ≤ y → (y ≡ x → ⊥) → Other (Some x) w
+another is h d = ((λ z. omega (arith, is, h, z)), λ e. d (inv is ∙ e))
 
-module _ {book shelf : List ℕ} {P : Book} {u x from : ℕ} where
+module _ {book shelf : List ℕ} {P : Book} {u : ℕ} {x : Option ℕ} {from : ℕ} where
   pub over-start : {i : ℕ} → Found book shelf P u from i → Over book shelf P u x from i
   over-start f = record { low = f.low; high = f.high; here = f.here; other = λ j a b e. absurd (f.other j a b e) }
 
@@ -212,21 +215,21 @@ module _ {book shelf : List ℕ} {P : Book} {u x from : ℕ} where
       ];
     }
 
-    pub hope-unknown : x ≡ 0 → Hopeful book shelf P u x from i
-    hope-unknown z = record { over = p; hope = λ l d. d.known z }
+    pub hope-unknown : x ≡ None → Hopeful book shelf P u x from i
+    hope-unknown z = record { over = p; hope = λ l d. subst (λ y. Other y (second_word book shelf (length P) i)) z d }
 
     pub hope-end : length P ≤ i → Hopeful book shelf P u x from i
     hope-end l = record { over = p; hope = λ z. absurd (omega (arith, l, z)) }
 
-    module _ {y : ℕ} (is : second_word book shelf (length P) i ≡ y) where
-      pub hope-variable : Valid (second_word book shelf (length P) i) → y < 33554432 → Hopeful book shelf P u x from i
-      hope-variable v l = record { over = p; hope = λ z d. d.plain (omega (arith, is, l, v.low)) }
+module _ {book shelf : List ℕ} {P : Book} {u x from i : ℕ} (p : Over book shelf P u (Some x) from i) {y : ℕ} (is : second_word book shelf (length P) i ≡ y) where
+  pub hope-variable : Valid (second_word book shelf (length P) i) → y < 33554432 → Hopeful book shelf P u (Some x) from i
+  hope-variable v l = record { over = p; hope = λ z d. d.0 (omega (arith, is, l, v.low)) }
 
-      pub hope-same : y ≡ x → Hopeful book shelf P u x from i
-      hope-same e = record { over = p; hope = λ z d. d.differ (is ∙ e) }
+  pub hope-same : y ≡ x → Hopeful book shelf P u (Some x) from i
+  hope-same e = record { over = p; hope = λ z d. d.1 (is ∙ e) }
 
 -- on to a clause that is not passed over
-pub passed_over : {book shelf : List ℕ} {P : Book} → BookOn book shelf P → {f : Expr} {u x q r : ℕ} → Over book shelf P u x q r → BeginSo f u
+pub passed_over : {book shelf : List ℕ} {P : Book} → BookOn book shelf P → {f : Expr} {u : ℕ} {x : Option ℕ} {q r : ℕ} → Over book shelf P u x q r → BeginSo f u
     → ((j : ℕ) → j < length P → head_word book shelf (length P) j ≡ u → Other x (second_word book shelf (length P) j) → Meets f (clause_at P j) → ⊥) → Passed f P 0 q → Passed f P 0 r
 passed_over {book} {P = P} o {q = q} x same none h j a b t = elim (dec_lt j q) [
   | yes l ↦ h j a l t
@@ -237,8 +240,8 @@ passed_over {book} {P = P} o {q = q} x same none h j a b t = elim (dec_lt j q) [
 ]
 
 -- a clause of the book that has another symbol than the formula's
-pub other-meets : {book shelf : List ℕ} {P : Book} → BookOn book shelf P → {heap cells : List ℕ} {at x : ℕ} → Lead heap cells at x → Made heap cells → Whole heap 1 at → {θ : Subst} → Solves heap cells θ
+pub other-meets : {book shelf : List ℕ} {P : Book} → BookOn book shelf P → {heap cells : List ℕ} {at : ℕ} (x : Option ℕ) → Lead heap cells at x → Made heap cells → Whole heap 1 at → {θ : Subst} → Solves heap cells θ
     → {f : Expr} → number [] (apply θ (rows heap 1 at)) ≡ f → (j : ℕ) → j < length P → head_word book shelf (length P) j ≡ get_or heap at 0 → Other x (second_word book shelf (length P) j) → Meets f (clause_at P j) → ⊥
-other-meets {book} {shelf} {P} o {x = x} led made whole s is j l e d =
-    let some = led.some d.known in
-    other_none led d.known made whole s is (head_at book shelf (length P) j) _ (clause_at P j) (head-here o j l) (first-is o j l ∙ e) (subst (Other x) (inv (second_is o j l e some)) d)
+other-meets {book} {shelf} {P} o None led made whole s is j l e d = absurd d
+other-meets {book} {shelf} {P} o (Some x) led made whole s is j l e d =
+    other_none led made whole s is (head_at book shelf (length P) j) _ (clause_at P j) (head-here o j l) (first-is o j l ∙ e) (subst (Other (Some x)) (inv (second_is o j l e (led.some refl))) d)

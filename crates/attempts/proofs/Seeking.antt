@@ -25,6 +25,8 @@ use Rattle.attempts.specs.Trying.{laid, HeldTrial, Tested, Sought}
 use Rattle.attempts.specs.declared.Attempt.{Attempt}
 use Rattle.attempts.specs.declared.Attempt.TheVariants.{Fits as Fits-now, Clash, Tired}
 use Rattle.attempts.specs.declared.Found.TheVariants as Seen
+use Rattle.std.specs.Prelude.{IsSome}
+use Rattle.std.specs.declared.option.Option.{Option}
 use Rattle.attempts.specs.Passing.{Lead, Over}
 use Rattle.attempts.proofs.Extending.{part-front}
 use Rattle.attempts.proofs.Telling.{same_head, head_plain}
@@ -58,12 +60,12 @@ module _ {words cells levels : List ℕ} {s : Standing} {f : Expr} {g a : Goal} 
   pub at-below : s.at < s.top
   at-below = omega (arith, row_inside (used words s) 0 s.at (held-row h), length-take-le s.top words h.inside)
 
-  pub passed_on : {book shelf : List ℕ} {P : Book} → BookOn book shelf P → {u x q r : ℕ} → u ≡ get_or words s.at 0 → Lead (used words s) cells s.at x → Over book shelf P u x q r → r < length P → Passed f P 0 q → Passed f P 0 r
-  passed_on o {u} eu led x l p =
+  pub passed_on : {book shelf : List ℕ} {P : Book} → BookOn book shelf P → {u : ℕ} {x : Option ℕ} {q r : ℕ} → u ≡ get_or words s.at 0 → Lead (used words s) cells s.at x → Over book shelf P u x q r → r < length P → Passed f P 0 q → Passed f P 0 r
+  passed_on o {u} {x = x'} eu led x l p =
       let here : get_or (used words s) s.at 0 ≡ u = get_or-take s.top words s.at 0 at-below ∙ inv eu in
       let inside = row_inside (used words s) 0 s.at (held-row h) in
       passed_over o x (λ head k c q t. same_head (used words s) s.at inside (h.made.fits s.at inside).valid (λ z. head_plain o l (x.here l) (ap kind_of (inv here) ∙ z)) h.meaning (held_first h) head k c q t ∙ here)
-      (λ j b e. other-meets o led h.made (held-row h) h.solved.solves (held_first h) j b (e ∙ inv here)) p
+      (λ j b e. other-meets o x' led h.made (held-row h) h.solved.solves (held_first h) j b (e ∙ inv here)) p
 
   -- the words in use as they are lent
   abbrev lent : List ℕ
@@ -72,15 +74,15 @@ module _ {words cells levels : List ℕ} {s : Standing} {f : Expr} {g a : Goal} 
   pub lent-made : Made lent cells × Whole lent 1 s.at
   lent-made = rw (part-front s.top words) (h.made, held-row h)
 
-  module _ {x : ℕ} (led : Lead lent cells s.at x) where
+  module _ {x : Option ℕ} (led : Lead lent cells s.at x) where
     pub lent-lead : Lead (used words s) cells s.at x
     lent-lead = subst (λ l. Lead l cells s.at x) (part-front s.top words) led
 
-    pub lead-some : {u : ℕ} → u ≡ get_or words s.at 0 → (x ≡ 0 → ⊥) → 0 < arity_of u
+    pub lead-some : {u : ℕ} → u ≡ get_or words s.at 0 → IsSome x → 0 < arity_of u
     lead-some eu n = subst (λ w. 0 < arity_of w) (get_or-take s.top words s.at 0 at-below ∙ inv eu) (lent-lead.some n)
 
 module _ {book shelf words₀ cells₀ rows₀ levels₀ stack₀ : List ℕ} {s : Standing} {all u : ℕ} where
-  pub seek-start : {x : ℕ} → Lead (used words₀ s) cells₀ s.at x → (P : Book) → BookOn book shelf P → all ≡ length P → u ≡ get_or words₀ s.at 0 → {r : ℕ} → ((P : Book) → BookOn book shelf P → Over book shelf P u x 0 r)
+  pub seek-start : {x : Option ℕ} → Lead (used words₀ s) cells₀ s.at x → (P : Book) → BookOn book shelf P → all ≡ length P → u ≡ get_or words₀ s.at 0 → {r : ℕ} → ((P : Book) → BookOn book shelf P → Over book shelf P u x 0 r)
       → Seeking book shelf words₀ cells₀ rows₀ levels₀ stack₀ s all u words₀ cells₀ rows₀ levels₀ stack₀ r
   seek-start led P o e eu y = record {
     high = omega (arith, (y P o).high, e);
@@ -119,7 +121,7 @@ module _ {book shelf words₀ cells₀ rows₀ levels₀ stack₀ : List ℕ} {s
       pub kept_tired : v ≡ Tired → cells' ≡ cells₀
       kept_tired e = subst (Tested f (clause_at P i) (take s.top words) clause words' cells s cells' tables) e t ∙ k.cells_are
 
-    pub seek-again : {x : ℕ} → Lead (used words₀ s) cells₀ s.at x → (P : Book) → BookOn book shelf P → ((P : Book) → BookOn book shelf P → all ≡ length P) → i < all → u ≡ get_or words₀ s.at 0
+    pub seek-again : {x : Option ℕ} → Lead (used words₀ s) cells₀ s.at x → (P : Book) → BookOn book shelf P → ((P : Book) → BookOn book shelf P → all ≡ length P) → i < all → u ≡ get_or words₀ s.at 0
         → {r : ℕ} → ((P : Book) → BookOn book shelf P → i < length P → head_word book shelf (length P) i ≡ u → Over book shelf P u x (suc i) r)
         → {words' cells' rows' levels' stack' : List ℕ} → length words' ≡ length words → cells' ≡ cells₀ → length rows' ≡ length rows → Fore levels levels' → length stack' ≡ length stack → take s.top words' ≡ take s.top words
         → ((P : Book) (f : Expr) (g a : Goal) → BookOn book shelf P → Holds words₀ cells₀ levels₀ s (f ∷ g) a → i < length P → Meets f (clause_at P i) → ⊥)

@@ -16,20 +16,16 @@ fn stands(heap: &[u32], at: usize, head: &[u32]) -> bool
     requires { (at ≤ length heap.now) × (length heap.now < 65536) }
     ensures { result ≡ true → SameWords heap.now at head.now (length head.now) }
 {
-    let n = head.len();
-    if heap.len() - at < n {
+    if heap.len() - at < head.len() {
         return false;
     }
-    let mut i = 0;
-    while i < n {
-        let u = word(head, i);
-        if u < SYMBOL {
+    for (i, u) in head.iter().enumerate() {
+        if *u < SYMBOL {
             return false;
         }
-        if u != word(heap, at + i) {
+        if *u != word(heap, at + i) {
             return false;
         }
-        i += 1;
     }
     true
 }

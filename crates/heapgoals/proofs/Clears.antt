@@ -1,29 +1,46 @@
--- Cells bound to nothing, one after another.
-use Prim.Native.Nat.{ℕ, suc, ◌<◌, ◌≤◌}
+-- Cells bound to nothing, by a fill of the part that they are.
+use Prim.Native.Nat.{ℕ, ◌+◌, ◌-◌, ◌<◌, ◌≤◌}
 use native.Mathlib.Omega.{arith}
-use native.Mathlib.Decide.{ℕ_discrete}
-use mathlib.Core.Path.{◌≡◌, refl, ap, ◌∙◌}
+use mathlib.Core.Path.{◌≡◌, sym as inv, ap, ◌∙◌}
 use mathlib.Core.Logic.{◌⊎◌, inl, inr}
-use mathlib.Core.List.{List}
-use lib.ListN.{length, set, length-set}
-use lib.Seq.{get_or-set_same, get_or-set_other}
+use mathlib.Core.List.{List, ◌++◌}
+use lib.ListN.{length, replicate, get_or, get_or-append, take, drop, length-replicate}
+use lib.Seq.{get_or-take, drop_at, length-take-le}
+use Rattle.std.proofs.lemmas.List.{get_or-drop, get_or-replicate}
+use borrow.Rule.Slice.PartMut.{mid_of, post_of, put_mid, same_len_mid, take_put, drop_put, mid_len}
 use Rattle.heap.specs.Heap.{bound}
 use Rattle.heapgoals.specs.Rows.{Cleared}
 
-pub clear_none : (cells : List ℕ) (from : ℕ) → Cleared cells from from cells
-clear_none cells from = record { long = refl; inside = λ v l h. absurd (omega (arith, l, h)); outside = λ v o. refl }
+module _ (cells : List ℕ) (from to : ℕ) (f : from ≤ to) (t : to ≤ length cells) where
+  abbrev part : List ℕ
+  part = replicate (to - from) 0
 
-pub clear-on : {cells z : List ℕ} {from i j : ℕ} → Cleared cells from i z → from ≤ i → i < length z → j ≡ suc i → Cleared cells from j (set z i 0)
-clear-on {cells} {z} {from} {i} {j} x f l e = record {
-  long = length-set z i 0 ∙ x.long;
-  inside = λ v a b. elim (ℕ_discrete v i) [ yes p ↦ ap (λ u. bound (set z i 0) u) p ∙ get_or-set_same z i 0 0 l | no n ↦ get_or-set_other z i v 0 0 n ∙ x.inside v a (omega (arith, b, e, n)) ];
-  outside = λ v o. get_or-set_other z i v 0 0 (away v o) ∙ x.outside v (wider v o);
-}
-  where
-    away : (v : ℕ) → (v < from) ⊎ (j ≤ v) → v ≡ i → ⊥
-    away v (inl a) p = omega (arith, a, p, f)
-    away v (inr b) p = omega (arith, b, p, e)
+  abbrev after : List ℕ
+  after = put_mid from (to - from) cells part
 
-    wider : (v : ℕ) → (v < from) ⊎ (j ≤ v) → (v < from) ⊎ (i ≤ v)
-    wider v (inl a) = inl a
-    wider v (inr b) = inr (omega (arith, b, e))
+  long : length part ≡ to - from
+  long = length-replicate (to - from) 0
+
+  behind : drop from after ≡ part ++ post_of from (to - from) cells
+  behind = drop_at (take from cells) (part ++ post_of from (to - from) cells) from (length-take-le from cells (omega (arith, f, t)))
+
+  at-zero : (v n : ℕ) → v ≡ from + n → n < to - from → bound after v ≡ 0
+  at-zero v n e l =
+      ap (bound after) e ∙ inv (get_or-drop from after n 0) ∙ ap (λ z. get_or z n 0) behind ∙ get_or-append part (post_of from (to - from) cells) 0 n (omega (arith, l, long))
+      ∙ get_or-replicate (to - from) n 0 0 l
+
+  far : (v n : ℕ) → v ≡ to + n → bound after v ≡ bound cells v
+  far v n e = ap (bound after) e ∙ inv (get_or-drop to after n 0) ∙ ap (λ z. get_or z n 0) (drop_put from to cells part f t long) ∙ get_or-drop to cells n 0 ∙ inv (ap (bound cells) e)
+
+  near : (v : ℕ) → v < from → bound after v ≡ bound cells v
+  near v l = inv (get_or-take from after v 0 l) ∙ ap (λ z. get_or z v 0) (take_put from (to - from) cells part (omega (arith, f, t))) ∙ get_or-take from cells v 0 l
+
+  other : (v : ℕ) → (v < from) ⊎ (to ≤ v) → bound after v ≡ bound cells v
+  other v (inl l) = near v l
+  other v (inr l) = far v (v - to) (omega (arith, l))
+
+  cleared : Cleared cells from to after
+  cleared = record { long = same_len_mid from (to - from) cells part (long ∙ inv (mid_len from to cells t)); inside = λ v a b. at-zero v (v - from) (omega (arith, a)) (omega (arith, a, b)); outside = other }
+
+pub filled : (cells : List ℕ) (from to : ℕ) → from ≤ to → to ≤ length cells → {ys : List ℕ} → ys ≡ replicate (length (mid_of from (to - from) cells)) 0 → Cleared cells from to (put_mid from (to - from) cells ys)
+filled cells from to f t e = rw (e, mid_len from to cells t) (cleared cells from to f t)

@@ -24,7 +24,6 @@ use Rattle.heap.specs.WriteLaws.{writes-append}
 use Rattle.heap.specs.declared.writing.Pen.{Pen}
 use Rattle.heap.specs.declared.writing.Run.{Run}
 use Rattle.heapgoals.specs.declared.Standing.{Standing}
-use Rattle.heapgoals.specs.declared.writing.Row as Shown
 use Rattle.heapgoals.specs.Holding.{used, Holds}
 use Rattle.heapgoals.specs.HoldLaws.{goal_meant, answer_meant, held-goal, held-answer, goal-flat, answer-flat, held_first}
 use Rattle.heapgoals.specs.Telling.{Other}
@@ -180,9 +179,6 @@ lead-out {words} {cells} {levels} {heap} {s} {f} h e {names} {out} {names'} {out
       long = long;
       some = omega (arith, long, as_long h.formulas.0);
     }
-
-pub given : {r : Shown.Row} → r ≡ record { words = 65535; answer = 0 } → r.words ≤ 4096 → ⊥
-given e l = omega (arith, l, ap (λ (z : Shown.Row). z.words) e)
 
 -- The part of the words that is in use, as it is lent.
 pub used-part : (words : List ℕ) (s : Standing) → take (s.top - 0) words ≡ used words s

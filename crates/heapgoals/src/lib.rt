@@ -10,7 +10,6 @@ ghost use Rattle.heapgoals.specs.Holding.{Holds};
 ghost use Rattle.heapgoals.specs.Rows.{Sided, Clean, Cleared};
 
 use bounds::one_if_variable;
-use words::word;
 
 pub mod telling; // a row told apart from a saved formula
 pub mod writing; // what is held, written out
@@ -41,10 +40,8 @@ fn variables_in(words: &[u32]) -> usize
     ensures { result ≡ places (nodes words.now) }
 {
     let mut n = 0;
-    let mut i = 0;
-    while i < words.len() {
-        n += one_if_variable(word(words, i));
-        i += 1;
+    for u in words {
+        n += one_if_variable(*u);
     }
     n
 }
@@ -87,9 +84,5 @@ pub fn clear(cells: &mut [u16], from: usize, to: usize)
     requires { (from ≤ to) × (to ≤ length cells.old) }
     ensures { Cleared cells.old from to cells.new }
 {
-    let mut i = from;
-    while i < to {
-        cells[i] = 0;
-        i += 1;
-    }
+    cells[from..to].fill(0);
 }

@@ -1,5 +1,5 @@
 // What is held on the heap: its first formula told apart from a saved one, or written out; goal and answer written out.
-ghost use Rattle.std.specs.Prelude.{◌≡◌, true, List, ◌∷◌, ℕ, ◌+◌, ◌≤◌, length, take};
+ghost use Rattle.std.specs.Prelude.{◌≡◌, true, IfSome, List, ◌∷◌, ℕ, ◌+◌, ◌≤◌, length, take};
 ghost use Rattle.terms.specs.Node.{Expr};
 ghost use Rattle.terms.specs.Subst.{Subst};
 ghost use Rattle.search.specs.Next.{Goal};
@@ -42,8 +42,7 @@ pub fn is_other(
         cells,
         &mut levels[514..1028],
         s.at,
-        saved,
-        kept,
+        &saved[..kept],
     )
 }
 
@@ -97,9 +96,7 @@ fn write_levels(
     ensures spare { spare rows.new ≡ spare rows.old }
 {
     let mut pen = first;
-    let mut n = depth;
-    while 0 < n {
-        n -= 1;
+    for n in (0..depth).rev() {
         let w = Walk {
             at: get(levels, 2 * n),
             due: get(levels, 2 * n + 1),
@@ -139,20 +136,11 @@ fn write_goal(
     write_levels(heap, cells, levels, rows, out, first, s.depth)
 }
 
-// How many words of the goal are written, and of the answer behind it; over 4,096 where the writing gave up.
+// How many words of the goal are written, and of the answer behind it.
 #[derive(Clone, Copy)]
 pub struct Row {
     pub words: usize,
     pub answer: usize,
-}
-
-fn given_up() -> Row
-    ensures { result ≡ record { words = 65535; answer = 0 } }
-{
-    Row {
-        words: 65535,
-        answer: 0,
-    }
 }
 
 fn write_rows(
@@ -162,15 +150,15 @@ fn write_rows(
     rows: &mut [u16; CELLS],
     out: &mut [u32; OUT],
     s: Standing,
-) -> Row
+) -> Option<Row>
     requires placed { Placed heap.now cells.now levels.old s }
-    ensures row { result.words ≤ 4096 → (words : List ℕ) (g a : Goal) → Holds words cells.now levels.old s g a → heap.now ≡ used words s → RowIn (take (result.words + result.answer) out.new) result.words s.formulas g a × (result.words + result.answer ≤ 8192) }
+    ensures row { IfSome result (λ r. (words : List ℕ) (g a : Goal) → Holds words cells.now levels.old s g a → heap.now ≡ used words s → RowIn (take (r.words + r.answer) out.new) r.words s.formulas g a × (r.words + r.answer ≤ 8192)) }
     ensures fore { Fore levels.old levels.new }
     ensures spare { spare rows.new ≡ spare rows.old }
 {
     let goal = write_goal(heap, cells, levels, rows, out, s);
     if 4096 < goal.at {
-        return given_up();
+        return None;
     }
     let end = goal.at + 4096;
     let w = Walk {
@@ -180,15 +168,15 @@ fn write_rows(
     };
     let all = put(heap, cells, levels, rows, out, goal, w, end);
     if end < all.at {
-        return given_up();
+        return None;
     }
-    Row {
+    Some(Row {
         words: goal.at,
         answer: all.at - goal.at,
-    }
+    })
 }
 
-// Goal and answer, numbered as one.
+// Goal and answer, numbered as one; none where the writing gave up.
 pub fn write_out(
     words: &[u32],
     cells: &[u16],
@@ -196,9 +184,9 @@ pub fn write_out(
     rows: &mut [u16; CELLS],
     out: &mut [u32; OUT],
     s: Standing,
-) -> Row
+) -> Option<Row>
     requires holds { (g : Goal) × (a : Goal) × Holds words.now cells.now levels.old s g a }
-    ensures row { result.words ≤ 4096 → (g a : Goal) → Holds words.now cells.now levels.old s g a → RowIn (take (result.words + result.answer) out.new) result.words s.formulas g a × (result.words + result.answer ≤ 8192) }
+    ensures row { IfSome result (λ r. (g a : Goal) → Holds words.now cells.now levels.old s g a → RowIn (take (r.words + r.answer) out.new) r.words s.formulas g a × (r.words + r.answer ≤ 8192)) }
     ensures held { (g a : Goal) → Holds words.now cells.now levels.old s g a → Holds words.now cells.now levels.new s g a }
     ensures spare { spare rows.new ≡ spare rows.old }
 {
@@ -206,7 +194,7 @@ pub fn write_out(
     write_rows(&words[0..top], cells, levels, rows, out, s)
 }
 
-// The goal's first formula, numbered: how many words it has, or over 4,096 where the writing gave up. Where it stands there with symbols alone, there is
+// The goal's first formula, numbered: how many words it has, or none where the writing gave up. Where it stands there with symbols alone, there is
 // nothing to follow or to number.
 pub fn write_first(
     words: &[u32],
@@ -215,9 +203,9 @@ pub fn write_first(
     rows: &mut [u16; CELLS],
     out: &mut [u32; OUT],
     s: Standing,
-) -> usize
+) -> Option<usize>
     requires holds { (f : Expr) × (g : Goal) × (a : Goal) × Holds words.now cells.now levels.old s (f ∷ g) a }
-    ensures first { result ≤ 4096 → (f : Expr) (g a : Goal) → Holds words.now cells.now levels.old s (f ∷ g) a → Lead f out.new result }
+    ensures first { IfSome result (λ n. (n ≤ 4096) × ((f : Expr) (g a : Goal) → Holds words.now cells.now levels.old s (f ∷ g) a → Lead f out.new n)) }
     ensures held { (g a : Goal) → Holds words.now cells.now levels.old s g a → Holds words.now cells.now levels.new s g a }
     ensures spare { spare rows.new ≡ spare rows.old }
 {
@@ -229,7 +217,7 @@ pub fn write_first(
     };
     let run = symbols(&words[0..top], out, start, 4096);
     if run.due == 0 {
-        return run.pen;
+        return Some(run.pen);
     }
     let from = Pen { at: 0, count: 0 };
     let w = Walk {
@@ -238,5 +226,8 @@ pub fn write_first(
         depth: 0,
     };
     let pen = put(&words[0..top], cells, levels, rows, out, from, w, 4096);
-    pen.at
+    if 4096 < pen.at {
+        return None;
+    }
+    Some(pen.at)
 }

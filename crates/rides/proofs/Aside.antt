@@ -13,13 +13,13 @@ use Rattle.states.proofs.Visits.{reopened}
 use Rattle.rides.specs.Riding.{Starts, Arrived, Went}
 use Rattle.rides.specs.declared.Start.{Start}
 use Rattle.rides.specs.declared.Come.{Come}
-use Rattle.rides.specs.declared.Ridden.{Ridden}
-use Rattle.rides.specs.declared.Ridden.TheVariants.{Came}
+use Rattle.std.specs.declared.option.Option.{Option}
+use Rattle.std.specs.declared.option.Option.TheVariants.{Some}
 
 pub start-kept : {P : Book} {q : Goal} {words saved : List ℕ} {x : Start} → Starts P q words saved x → x.place.kept ≤ length saved
 start-kept {P} {q} {words} {saved} {x} y = kept-within saved x.place.kept y.opens.here.state.saved y.opens.here.keeps
 
-pub came : {P : Book} {q : Goal} {budget since : ℕ} {saved out : List ℕ} (r : Ridden) (c : Come) → r ≡ Came c → Went P q budget since saved out r → Arrived P q budget since saved out c
+pub came : {P : Book} {q : Goal} {budget since : ℕ} {saved out : List ℕ} (r : Option Come) (c : Come) → r ≡ Some c → Went P q budget since saved out r → Arrived P q budget since saved out c
 came {P} {q} {budget} {since} {saved} {out} r c e w = subst (Went P q budget since saved out) e w
 
 module _ (words saved : List ℕ) (kept : ℕ) (room : kept ≤ length words) (fits : kept ≤ length saved) (end limit : ℕ) (is-end : end ≡ length words) (is-limit : limit ≡ end - kept) where

@@ -21,10 +21,10 @@ use Rattle.heapgoals.specs.Holding.{Holds}
 use Rattle.heapgoals.specs.declared.Standing.{Standing}
 use Rattle.treads.specs.Stepping.{Treads}
 use Rattle.rides.specs.Riding.{Starts, StandingAt, Went, Drawn, ForeseenFrom, KeepsSome, Something, onward_of}
-use Rattle.treads.specs.declared.Tread.{Tread}
-use Rattle.treads.specs.declared.Tread.TheVariants.{Stays, Goes}
+use Rattle.std.specs.declared.option.Option.{Option}
+use Rattle.std.specs.declared.option.Option.TheVariants.{None, Some}
 use Rattle.rides.specs.declared.Start.{Start}
-use Rattle.rides.specs.declared.Ridden.{Ridden}
+use Rattle.rides.specs.declared.Come.{Come}
 use Rattle.rides.specs.declared.looking.Along.{Along}
 use Rattle.rides.specs.declared.looking.Ahead.{Ahead}
 
@@ -85,7 +85,7 @@ module _ (book shelf words₀ saved₀ : List ℕ) (start : Start) (words cells 
     held-something = (here.goal, here.answer, held here.goal here.answer here.holds)
 
     -- the ride ends here
-    pub held-went : (since : ℕ) (out : List ℕ) (r : Ridden) → x.budget ≡ start.budget
+    pub held-went : (since : ℕ) (out : List ℕ) (r : Option Come) → x.budget ≡ start.budget
         → ((P : Book) (q : Goal) (saved : List ℕ) (g a : Goal) → Visits P q x.budget saved x.detector x.kept g a → Holds words cells levels' s g a → Went P q x.budget since saved out r)
         → From book shelf words₀ saved₀ start (λ P q. Went P q start.budget since saved out r)
     held-went since out r e went P q b y =
@@ -106,10 +106,10 @@ module _ (book shelf words₀ saved₀ : List ℕ) (start : Start) (words cells 
       pub step-allowed : x.detector.step < x.budget
       step-allowed = let (f, r, e, z) = foreseen here.goal here.answer here.holds in omega (arith, z.apart.allowed, here.visits.allowed)
 
-      module _ (words' cells' levels'' : List ℕ) (t : Tread)
+      module _ (words' cells' levels'' : List ℕ) (t : Option Standing)
           (trod : (P : Book) (f : Expr) (g a : Goal) → BookOn book shelf P → Holds words cells levels' s (f ∷ g) a → Treads P f g a words' cells' levels'' s t) where
         -- no step is made
-        stays : t ≡ Stays → From book shelf words₀ saved₀ start (λ P q. Comes P q words' cells' levels'' saved s x)
+        stays : t ≡ None → From book shelf words₀ saved₀ start (λ P q. Comes P q words' cells' levels'' saved s x)
         stays i P q b y =
             let c = comes P q b y in
             let (f, r, e, h) = first c.goal c.answer c.holds in
@@ -120,10 +120,10 @@ module _ (book shelf words₀ saved₀ : List ℕ) (start : Start) (words cells 
               holds = subst (Treads P f r c.answer words' cells' levels'' s) i (trod P f r c.answer b h);
             }
 
-        pub stays-something : t ≡ Stays → Something words' cells' levels'' s
+        pub stays-something : t ≡ None → Something words' cells' levels'' s
         stays-something i = let c = stays i there.0 there.1 there.2 there.3 in (c.goal, c.answer, c.holds)
 
-        pub stays-went : t ≡ Stays → (since : ℕ) (out' : List ℕ) (r : Ridden) → x.budget ≡ start.budget
+        pub stays-went : t ≡ None → (since : ℕ) (out' : List ℕ) (r : Option Come) → x.budget ≡ start.budget
             → ((P : Book) (q : Goal) (saved : List ℕ) (g a : Goal) → Visits P q x.budget saved x.detector x.kept g a → Holds words' cells' levels'' s g a → Went P q x.budget since saved out' r)
             → From book shelf words₀ saved₀ start (λ P q. Went P q start.budget since saved out' r)
         stays-went i since out' r e went P q b y =
@@ -131,7 +131,7 @@ module _ (book shelf words₀ saved₀ : List ℕ) (start : Start) (words cells 
             subst (λ n. Went P q n since saved out' r) e (went P q saved c.goal c.answer c.visits c.holds)
 
         -- one is made, and the formula before it saved if that is due
-        module _ (next : Standing) (went : t ≡ Goes next) (saved' : List ℕ) (k : ℕ) (small : ahead.kept ≤ length out) (room : ahead.kept ≤ length saved)
+        module _ (next : Standing) (went : t ≡ Some next) (saved' : List ℕ) (k : ℕ) (small : ahead.kept ≤ length out) (room : ahead.kept ≤ length saved)
             (kept : Keeps out ahead.kept saved x.kept ahead.due saved' k) (x' : Along) (is : x' ≡ onward_of x start.budget k s.formulas ahead.due) (same : x.budget ≡ start.budget) where
           abbrev y' : Along
           y' = onward_of x start.budget k s.formulas ahead.due

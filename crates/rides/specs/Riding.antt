@@ -1,6 +1,6 @@
 -- A ride: from an open state to one that is held in words again, or to none.
 use Rattle.std.specs.Prelude.{ℕ, ◌≤◌, ◌<◌, ◌≡◌, Bool, true, false, ◌⊎◌, List, ◌∷◌, length, take}
-use Rattle.std.proofs.Math.Option.{Option, some}
+use Rattle.std.proofs.Math.Option.{Option as Maybe, some}
 use Rattle.terms.specs.Node.{Expr}
 use Rattle.terms.specs.Number.{Numbered}
 use Rattle.search.specs.Next.{Book, Goal}
@@ -14,8 +14,8 @@ use Rattle.heapgoals.specs.Holding.{Holds}
 use Rattle.heapgoals.specs.declared.Standing.{Standing}
 use Rattle.rides.specs.declared.Start.{Start}
 use Rattle.rides.specs.declared.Come.{Come}
-use Rattle.rides.specs.declared.Ridden.{Ridden}
-use Rattle.rides.specs.declared.Ridden.TheVariants.{Stayed, Came}
+use Rattle.std.specs.declared.option.Option.{Option}
+use Rattle.std.specs.declared.option.Option.TheVariants.{None, Some}
 use Rattle.rides.specs.declared.looking.Along.{Along}
 use Rattle.rides.specs.declared.looking.Ahead.{Ahead}
 
@@ -43,14 +43,14 @@ pub record Arrived (P : Book) (q : Goal) (budget since : ℕ) (saved out : List 
   pub here : Reached P q budget out saved c.detector c.words c.formulas c.answer c.kept
   pub later : since < c.detector.step
 
-abbrev pub Went : Book → Goal → ℕ → ℕ → List ℕ → List ℕ → Ridden → Type 0
-Went P q budget since saved out Stayed = Unit {0}
-Went P q budget since saved out (Came c) = Arrived P q budget since saved out c
+abbrev pub Went : Book → Goal → ℕ → ℕ → List ℕ → List ℕ → Option Come → Type 0
+Went P q budget since saved out None = Unit {0}
+Went P q budget since saved out (Some c) = Arrived P q budget since saved out c
 
 -- where none is come to, the saved formula is as it was
-abbrev pub Rode : Book → Goal → List ℕ → Start → List ℕ → List ℕ → Ridden → Type 0
-Rode P q saved x saved' out Stayed = take x.place.kept saved' ≡ take x.place.kept saved
-Rode P q saved x saved' out (Came c) = Arrived P q x.budget x.place.detector.step saved' out c
+abbrev pub Rode : Book → Goal → List ℕ → Start → List ℕ → List ℕ → Option Come → Type 0
+Rode P q saved x saved' out None = take x.place.kept saved' ≡ take x.place.kept saved
+Rode P q saved x saved' out (Some c) = Arrived P q x.budget x.place.detector.step saved' out c
 
 -- neither does "t equals the budget", nor is the leftmost formula the saved one in a goal that is long enough
 pub record Apart (saved : List ℕ) (x : Along) (f : Expr) (g : Goal) : Type 0 where
@@ -75,7 +75,7 @@ ForeseenFrom saved out x g r = (f : Expr) × (h : Goal) × (g ≡ f ∷ h) × Fo
 
 -- some formula is saved, or none
 abbrev pub KeepsSome : List ℕ → ℕ → Type 0
-KeepsSome saved k = (o : Option Expr) × Kept saved k o
+KeepsSome saved k = (o : Maybe Expr) × Kept saved k o
 
 -- the numbers after a step: a save, if one is due, and "then t grows by one"
 abbrev pub onward_of : Along → ℕ → ℕ → ℕ → Bool → Along

@@ -16,7 +16,7 @@ use heapgoals::writing::write_out;
 use heapgoals::{Sides, Standing, clear, stand};
 use states::Place;
 use states::leftmost::{copy_words, keep};
-use treads::{Tread, take_step};
+use treads::take_step;
 use words::OUT;
 use words::rows::CELLS;
 
@@ -40,12 +40,6 @@ pub struct Come {
     pub kept: usize,
 }
 
-#[derive(Clone, Copy)]
-pub enum Ridden {
-    Stayed,
-    Came(Come),
-}
-
 fn stand_at(words: &[u32], start: Start) -> Standing
     requires { (P : Book) × (q : Goal) × (saved : List ℕ) × Starts P q words.now saved start }
     ensures held { StandingAt words.now start result }
@@ -64,7 +58,7 @@ fn stand_at(words: &[u32], start: Start) -> Standing
     )
 }
 
-// The ride ends: where it has come further than the step `since`, goal and answer are written out.
+// The ride ends: where it has come further than the step `since`, goal and answer are written out. None where no state is come to.
 fn finish(
     words: &[u32],
     cells: &mut [u16],
@@ -74,7 +68,7 @@ fn finish(
     s: Standing,
     x: Along,
     since: u32,
-) -> Ridden
+) -> Option<Come>
     requires { (since ≤ x.detector.step) × Something words.now cells.old levels.old s }
     ensures went { (P : Book) (q : Goal) (saved : List ℕ) (g a : Goal) → Visits P q x.budget saved x.detector x.kept g a → Holds words.now cells.old levels.old s g a → Went P q x.budget since saved out.new result }
     ensures free { Free cells.new }
@@ -82,14 +76,12 @@ fn finish(
     let detector = x.detector;
     if detector.step == since {
         clear(cells, 0, s.base);
-        return Ridden::Stayed;
+        return None;
     }
-    let row = write_out(words, cells, levels, rows, out, s);
+    let written = write_out(words, cells, levels, rows, out, s);
     clear(cells, 0, s.base);
-    if 4096 < row.words {
-        return Ridden::Stayed;
-    }
-    Ridden::Came(Come {
+    let row = written?;
+    Some(Come {
         detector,
         words: row.words,
         answer: row.answer,
@@ -108,7 +100,7 @@ fn go_on(
     saved: &mut [u32],
     out: &mut [u32; OUT],
     start: Start,
-) -> Ridden
+) -> Option<Come>
     requires lent { Lent words.old cells.old rows.old saved.old out.old × Free cells.old }
     requires book_on { (P : Book) × (q : Goal) × BookOn book.now shelf.now P × Starts P q words.old saved.old start }
     ensures went { (P : Book) (q : Goal) → BookOn book.now shelf.now P → Starts P q words.old saved.old start → Went P q start.budget start.place.detector.step saved.new out.new result }
@@ -127,20 +119,16 @@ fn go_on(
         budget: start.budget,
     };
     loop {
-        let ahead = look_ahead(words, cells, &mut levels, rows, saved, out, s, x);
-        if 4096 < ahead.kept {
+        let Some(ahead) = look_ahead(words, cells, &mut levels, rows, saved, out, s, x) else {
             return finish(words, cells, &mut levels, rows, out, s, x, since);
-        }
-        match take_step(book, shelf, words, cells, rows, &mut levels, &mut stack, s) {
-            Tread::Stays => {
-                return finish(words, cells, &mut levels, rows, out, s, x, since);
-            }
-            Tread::Goes(next) => {
-                let kept = keep(out, ahead.kept, saved, x.kept, ahead.due);
-                x = onward(x, start.budget, kept, s.formulas as u32, ahead.due);
-                s = next;
-            }
-        }
+        };
+        let Some(next) = take_step(book, shelf, words, cells, rows, &mut levels, &mut stack, s)
+        else {
+            return finish(words, cells, &mut levels, rows, out, s, x, since);
+        };
+        let kept = keep(out, ahead.kept, saved, x.kept, ahead.due);
+        x = onward(x, start.budget, kept, s.formulas as u32, ahead.due);
+        s = next;
     }
 }
 
@@ -154,7 +142,7 @@ pub fn ride(
     saved: &mut [u32],
     out: &mut [u32; OUT],
     start: Start,
-) -> Ridden
+) -> Option<Come>
     requires lent { Lent words.old cells.old rows.old saved.old out.old × Free cells.old }
     requires book_on { (P : Book) × (q : Goal) × BookOn book.now shelf.now P × Starts P q words.old saved.old start }
     ensures rode { (P : Book) (q : Goal) → BookOn book.now shelf.now P → Starts P q words.old saved.old start → Rode P q saved.old start saved.new out.new result }
@@ -164,12 +152,12 @@ pub fn ride(
     let place = start.place;
     let kept = place.kept;
     if words.len() - (place.words + place.answer) < kept {
-        return Ridden::Stayed;
+        return None;
     }
     let end = words.len();
     let limit = end - kept;
     copy_words(saved, &mut words[limit..end], kept);
-    match go_on(
+    let come = go_on(
         book,
         shelf,
         &mut words[0..limit],
@@ -178,11 +166,9 @@ pub fn ride(
         saved,
         out,
         start,
-    ) {
-        Ridden::Stayed => {
-            copy_words(&words[limit..end], saved, kept);
-            Ridden::Stayed
-        }
-        Ridden::Came(come) => Ridden::Came(come),
+    );
+    if come.is_none() {
+        copy_words(&words[limit..end], saved, kept);
     }
+    come
 }

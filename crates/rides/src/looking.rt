@@ -1,5 +1,5 @@
 // What is looked at before a step: whether the state may close the run, and the formula that is to be saved.
-ghost use Rattle.std.specs.Prelude.{◌≤◌, ◌<◌, ◌≡◌, false, ◌∷◌, length};
+ghost use Rattle.std.specs.Prelude.{◌≤◌, ◌<◌, ◌≡◌, false, IfSome, ◌∷◌, length};
 ghost use Rattle.terms.specs.Node.{Expr};
 ghost use Rattle.search.specs.Next.{Goal};
 ghost use Rattle.heapgoals.specs.Holding.{Holds};
@@ -19,7 +19,7 @@ pub struct Along {
     pub budget: u32,
 }
 
-// Whether a save is due before the step, and how many words the formula has then; over 4,096 where the ride ends.
+// Whether a save is due before the step, and how many words the formula has then.
 #[derive(Clone, Copy)]
 pub struct Ahead {
     pub kept: usize,
@@ -52,6 +52,7 @@ fn may_close(
     !is_other(words, cells, levels, s, saved, x.kept)
 }
 
+// How many words the formula has that is to be saved, where a save is due; none where it could not be written out.
 fn draw(
     words: &[u32],
     cells: &[u16],
@@ -60,17 +61,18 @@ fn draw(
     out: &mut [u32; OUT],
     s: Standing,
     due: bool,
-) -> usize
+) -> Option<usize>
     requires { ((f : Expr) × (g : Goal) × (a : Goal) × Holds words.now cells.now levels.old s (f ∷ g) a) }
-    ensures drawn { result ≤ 4096 → (f : Expr) (g a : Goal) → Holds words.now cells.now levels.old s (f ∷ g) a → Drawn f out.new result due }
+    ensures drawn { IfSome result (λ n. (n ≤ 4096) × ((f : Expr) (g a : Goal) → Holds words.now cells.now levels.old s (f ∷ g) a → Drawn f out.new n due)) }
     ensures held { (g a : Goal) → Holds words.now cells.now levels.old s g a → Holds words.now cells.now levels.new s g a }
 {
     if due {
         return write_first(words, cells, levels, rows, out, s);
     }
-    0
+    Some(0)
 }
 
+// None where the ride ends.
 pub fn look_ahead(
     words: &[u32],
     cells: &[u16],
@@ -80,21 +82,18 @@ pub fn look_ahead(
     out: &mut [u32; OUT],
     s: Standing,
     x: Along,
-) -> Ahead
+) -> Option<Ahead>
     requires { KeepsSome saved.now x.kept × Something words.now cells.now levels.old s }
-    ensures foreseen { result.kept ≤ 4096 → (g a : Goal) → Holds words.now cells.now levels.old s g a → ForeseenFrom saved.now out.new x g result }
+    ensures foreseen { IfSome result (λ r. (r.kept ≤ 4096) × ((g a : Goal) → Holds words.now cells.now levels.old s g a → ForeseenFrom saved.now out.new x g r)) }
     ensures held { (g a : Goal) → Holds words.now cells.now levels.old s g a → Holds words.now cells.now levels.new s g a }
 {
     if may_close(words, cells, levels, saved, s, x) {
-        return Ahead {
-            kept: 65535,
-            due: false,
-        };
+        return None;
     }
     let detector = x.detector;
     let due = detector.due(s.formulas as u32);
-    let kept = draw(words, cells, levels, rows, out, s, due);
-    Ahead { kept, due }
+    let kept = draw(words, cells, levels, rows, out, s, due)?;
+    Some(Ahead { kept, due })
 }
 
 // After the step: "then t grows by one".

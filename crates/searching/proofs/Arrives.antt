@@ -15,8 +15,8 @@ use Rattle.states.proofs.Visits.{reheld, reopened}
 use Rattle.rides.specs.Riding.{Starts, Arrived, Rode}
 use Rattle.rides.specs.declared.Start.{Start}
 use Rattle.rides.specs.declared.Come.{Come}
-use Rattle.rides.specs.declared.Ridden.{Ridden}
-use Rattle.rides.specs.declared.Ridden.TheVariants.{Stayed, Came}
+use Rattle.std.specs.declared.option.Option.{Option}
+use Rattle.std.specs.declared.option.Option.TheVariants.{None, Some}
 use Rattle.searching.specs.Searching.{Asked, start_of, Arriving, Entered}
 use Rattle.searching.proofs.Searches.{left}
 
@@ -49,16 +49,16 @@ module _ (goal saved : List ℕ) (budget answers : ℕ) (t : Result Place Ended)
   pub ride_starts : Starts P q goal saved start
   ride_starts = record { opens = opened; answers = asked.held.goal.count; numbered = asked.numbered }
 
-  module _ (saved' out : List ℕ) (r : Ridden) (y : Rode P q saved start saved' out r) where
+  module _ (saved' out : List ℕ) (r : Option Come) (y : Rode P q saved start saved' out r) where
     -- where it stays, the row is where it was
-    pub stayed_starts : r ≡ Stayed → length saved' ≡ length saved → (goal' : List ℕ) → length goal' ≡ length goal → take (p.words + p.answer) goal' ≡ take (p.words + p.answer) goal → Starts P q goal' saved' start
+    pub stayed_starts : r ≡ None → length saved' ≡ length saved → (goal' : List ℕ) → length goal' ≡ length goal → take (p.words + p.answer) goal' ≡ take (p.words + p.answer) goal → Starts P q goal' saved' start
     stayed_starts i l goal' long same = record {
       opens = reopened goal' saved' same (omega (arith, long, opened.here.answer_within)) (subst (Rode P q saved start saved' out) i y) l opened;
       answers = asked.held.goal.count;
       numbered = asked.numbered;
     }
 
-    module _ (c : Come) (i : r ≡ Came c) where
+    module _ (c : Come) (i : r ≡ Some c) where
       pub came-arrived : Arrived P q budget p.detector.step saved' out c
       came-arrived = subst (Rode P q saved start saved' out) i y
 

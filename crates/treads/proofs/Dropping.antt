@@ -34,7 +34,7 @@ use Rattle.attempts.specs.Facts.{Bare, Given}
 use Rattle.attempts.proofs.Extending.{part-front}
 use Rattle.attempts.proofs.FactLaws.{bare-seen, given-unifies}
 use Rattle.treads.specs.Stepping.{Entered, Treads}
-use Rattle.treads.specs.declared.Tread.TheVariants.{Goes}
+use Rattle.std.specs.declared.option.Option.TheVariants.{Some}
 use Rattle.treads.proofs.Treading.{held_still, goal-next, answer-next}
 
 -- where the rest of the goal stands
@@ -139,7 +139,7 @@ given-resolved {f} {c} x l numbered = record {
 
 pub given-gone : {book shelf words cells levels : List ℕ} {P : Book} {s : Standing} {f : Expr} {g a : Goal} → BookOn book shelf P → Holds words cells levels s (f ∷ g) a
     → {i : ℕ} → Picked f P 0 i → i < length P → Given f (clause_at P i) → {words' cells' levels' : List ℕ} → take s.top words' ≡ take s.top words → length words' ≡ length words → cells' ≡ cells → Fore levels levels'
-    → {levels'' : List ℕ} {t : Standing} → t.top ≡ s.top → ((cells : List ℕ) (f : Expr) (g a : Goal) → Bare f → Holds words' cells levels' s (f ∷ g) a → Holds words' cells levels'' t g a) → Treads P f g a words' cells' levels'' s (Goes t)
+    → {levels'' : List ℕ} {t : Standing} → t.top ≡ s.top → ((cells : List ℕ) (f : Expr) (g a : Goal) → Bare f → Holds words' cells levels' s (f ∷ g) a → Holds words' cells levels'' t g a) → Treads P f g a words' cells' levels'' s (Some t)
 given-gone {P = P} {s} {f} {g} {a} o h {i} picked l x {words'} {cells'} kept long same fore {levels''} {t} top held =
     let now = held_still h kept long fore same in
     let numbered = rest-numbered x.bare h in

@@ -2,7 +2,6 @@
 use Prim.Native.Nat.{ℕ, ◌+◌, ◌-◌, ◌<◌, ◌≤◌}
 use native.Mathlib.Omega.{arith}
 use mathlib.Core.Path.{◌≡◌, sym as inv, subst}
-use mathlib.Core.Bool.{true}
 use mathlib.Core.List.{List, map}
 use lib.ListN.{length, take, drop, length-drop}
 use lib.Seq.{length-take-le}
@@ -25,6 +24,7 @@ use Rattle.heapgoals.specs.declared.Standing.{Standing}
 use Rattle.attempts.specs.Trying.{laid, Fitted}
 use Rattle.treads.specs.Stepping.{IsUnderWay, body_at, Bounded, Entered}
 use Rattle.treads.specs.declared.sizing.Span.{Span}
+use Rattle.std.specs.Prelude.{true}
 use Rattle.treads.specs.declared.sizing.Bounds.{Bounds}
 use Rattle.attempts.proofs.Extending.{still_whole, still_levels}
 use Rattle.treads.proofs.Nexts.{next_standing, body-whole, goal, answer, goes, goal-fits, answer-fits, next-held}

@@ -1,6 +1,7 @@
 -- Laws that the proofs share.
 mod Entering
 mod Nexts
+pub mod Known
 mod Going
 mod Treading
 mod Dropping

@@ -1,9 +1,10 @@
 -- What a clause's body adds, and laws of the sums.
-use Prim.Native.Nat.{ℕ, ◌+◌, ◌*◌, ◌-◌, ◌<◌, ◌≤◌}
+use Prim.Native.Nat.{ℕ, ◌+◌, ◌*◌, ◌-◌, ◌<◌, ◌≤◌, min}
 use native.Mathlib.Omega.{arith}
 use native.Mathlib.Nat.{mul-le-mul_right}
 use mathlib.Core.Path.{◌≡◌, refl, ap, ◌∙◌, subst}
-use mathlib.Core.Logic.{inl, inr}
+use native.Mathlib.Decide.{dec_lt}
+use mathlib.Core.Logic.{◌⊎◌, inl, inr}
 use mathlib.Core.List.{List}
 use lib.ListN.{length, take, drop}
 use Rattle.terms.specs.Node.{Expr}
@@ -22,6 +23,10 @@ use Rattle.treads.specs.Adding.{span_words, head_long, Led, ThriftyAdds, Adds, C
 use Rattle.treads.specs.declared.sizing.Span.{Span}
 use Rattle.treads.proofs.Going.{span-few}
 use Rattle.treads.proofs.UnderWay.{first-is}
+
+-- the smaller of two is one of them
+pub smaller : (a b : ℕ) {r : ℕ} → r ≡ min a b → ((r ≡ a) ⊎ (r ≡ b)) × (r ≤ b)
+smaller a b e = elim (dec_lt a b) [ yes l ↦ (inl (omega (arith, e, l)), omega (arith, e)) | no n ↦ (inr (omega (arith, e, n)), omega (arith, e)) ]
 
 pub few_product : (a b m : ℕ) → a ≤ 8192 → b ≤ m → a * b ≤ 8192 * m
 few_product a b m l h = omega (arith, mul-le-mul_right {m = a} {n = 8192} b l, h)

@@ -30,7 +30,7 @@ use Rattle.attempts.specs.Trying.{laid, Fitted, Sought}
 use Rattle.treads.specs.Stepping.{IsUnderWay, Went, Treads}
 use Rattle.treads.specs.Adding.{span_words, head_long}
 use Rattle.treads.specs.declared.sizing.Span.{Span}
-use Rattle.treads.specs.declared.Tread.TheVariants.{Goes}
+use Rattle.std.specs.declared.option.Option.TheVariants.{Some}
 use Rattle.attempts.specs.declared.Found.TheVariants as Seen
 use Rattle.attempts.proofs.Extending.{part-front}
 
@@ -93,7 +93,7 @@ module _ {book shelf words cells levels : List ℕ} {P : Book} {s : Standing} {f
       short = omega (arith, enough, most);
     }
 
-    pub gone : {levels'' : List ℕ} {t' : Standing} → Went levels' s c (take (end - 0) (drop 0 words')) cells' tables count levels'' (Goes t') → Treads P f g a words' cells' levels'' s (Goes t')
+    pub gone : {levels'' : List ℕ} {t' : Standing} → Went levels' s c (take (end - 0) (drop 0 words')) cells' tables count levels'' (Some t') → Treads P f g a words' cells' levels'' s (Some t')
     gone {levels''} {t'} (top, y) =
         let (n, b, on, fit, little, held) = y book words cells f g a (clause_at P i) under_way in
         let same = answer-next o f g a h.formulas t.0 t.1 n b on in (

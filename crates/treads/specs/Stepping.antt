@@ -21,8 +21,8 @@ use Rattle.heapgoals.specs.declared.Standing.{Standing}
 use Rattle.attempts.specs.Trying.{laid, Fitted}
 use Rattle.treads.specs.declared.sizing.Span.{Span}
 use Rattle.treads.specs.declared.sizing.Bounds.{Bounds}
-use Rattle.treads.specs.declared.Tread.{Tread}
-use Rattle.treads.specs.declared.Tread.TheVariants.{Stays, Goes}
+use Rattle.std.specs.declared.option.Option.{Option}
+use Rattle.std.specs.declared.option.Option.TheVariants.{None, Some}
 
 -- goal and answer are held, and the clause d stands behind them on the heap, its head equal to the first formula for what is bound now
 pub record IsUnderWay (book words before levels : List ℕ) (s : Standing) (c : Span) (heap cells tables : List ℕ) (count : ℕ) (f : Expr) (g a : Goal) (d : Clause) : Type 0 where
@@ -73,14 +73,14 @@ pub record Entered (heap levels : List ℕ) (s : Standing) (p k : ℕ) (levels' 
   pub long : length levels' ≡ length levels
 
 -- no step, or the step by the clause d
-abbrev pub Went : List ℕ → Standing → Span → List ℕ → List ℕ → List ℕ → ℕ → List ℕ → Tread → Type 0
-Went levels s c heap cells tables count levels' Stays = Fore levels levels'
-Went levels s c heap cells tables count levels' (Goes t) =
+abbrev pub Went : List ℕ → Standing → Span → List ℕ → List ℕ → List ℕ → ℕ → List ℕ → Option Standing → Type 0
+Went levels s c heap cells tables count levels' None = Fore levels levels'
+Went levels s c heap cells tables count levels' (Some t) =
     (t.top ≡ length heap) × ((book words before : List ℕ) (f : Expr) (g a : Goal) (d : Clause) → IsUnderWay book words before levels s c heap cells tables count f g a d
     → (h : Goal) × (b : Goal) × Onward f g a d h b × (fits h ≡ true) × (small b ≡ true) × Holds heap cells levels' t h b)
 
 -- what is held is held still; or the next goal and answer are held, on no fewer words, and have room
-abbrev pub Treads : Book → Expr → Goal → Goal → List ℕ → List ℕ → List ℕ → Standing → Tread → Type 0
-Treads P f g a words cells levels s Stays = Holds words cells levels s (f ∷ g) a
-Treads P f g a words cells levels s (Goes t) =
+abbrev pub Treads : Book → Expr → Goal → Goal → List ℕ → List ℕ → List ℕ → Standing → Option Standing → Type 0
+Treads P f g a words cells levels s None = Holds words cells levels s (f ∷ g) a
+Treads P f g a words cells levels s (Some t) =
     (h : Goal) × (next_goal P (f ∷ g) ≡ some h) × (fits h ≡ true) × (small (next_answer P (f ∷ g) a) ≡ true) × Holds words cells levels t h (next_answer P (f ∷ g) a) × (s.top ≤ t.top)

@@ -20,7 +20,7 @@ ghost use Rattle.treads.specs.Stepping.{IsUnderWay, BehindFirst, Entered, Went, 
 
 use crate::sizing::{Span, sized};
 use attempts::{Found, first_fit, release};
-use bounds::{OVER, Weight};
+use bounds::Weight;
 use figures::figure_at;
 use heap::past;
 use heap::walking::{Walk, settled};
@@ -76,13 +76,8 @@ fn entered(heap: &[u32], levels: &mut [u16], s: Standing, body: usize, k: usize)
     }
 }
 
-#[derive(Clone, Copy)]
-pub enum Tread {
-    Stays,
-    Goes(Standing),
-}
-
-// By the clause at c, whose trial the heap holds, with so many goal variables bound, each of which stands for so much at most, where that is known.
+// Where goal and answer stand after the step by the clause at c, whose trial the heap holds, with so many goal variables bound, each of which stands for so much at most, where that is known;
+// none where it is not sure that they have room.
 fn go(
     heap: &[u32],
     cells: &[u16],
@@ -92,27 +87,22 @@ fn go(
     c: Span,
     count: usize,
     known: Option<Weight>,
-) -> Tread
+) -> Option<Standing>
     requires { ((book : List ℕ) × (words : List ℕ) × (before : List ℕ) × (f : Expr) × (g : Goal) × (a : Goal) × (d : Clause) × IsUnderWay book words before levels.old s c heap.now cells.now rows.now count f g a d) × (s.depth < 256) × Weighed heap.now cells.now s.base (trail rows.now) count known }
     ensures { Went levels.old s c heap.now cells.now rows.now count levels.new result }
 {
     let formulas = s.formulas - 1 + c.bodies;
     if 512 < formulas {
-        return Tread::Stays;
+        return None;
     }
-    let size = sized(heap, cells, rows, levels, s, c, count, known);
-    if size.nodes == OVER {
-        return Tread::Stays;
-    }
+    let size = sized(heap, cells, rows, levels, s, c, count, known)?;
     let body = s.top + (c.head - c.start);
     let w = entered(heap, levels, s, body, c.bodies);
-    Tread::Goes(Standing {
+    Some(Standing {
         at: w.at,
         due: w.due,
         depth: w.depth,
         formulas,
-        answer: s.answer,
-        answers: s.answers,
         top: heap.len(),
         base: s.base + size.names,
         nodes: size.nodes,
@@ -120,6 +110,7 @@ fn go(
         variables: size.variables,
         most: size.most,
         least: size.least,
+        ..s
     })
 }
 
@@ -136,15 +127,8 @@ fn drop_first(words: &[u32], levels: &mut [u16], s: Standing) -> Standing
         due: w.due,
         depth: w.depth,
         formulas: s.formulas - 1,
-        answer: s.answer,
-        answers: s.answers,
-        top,
-        base: s.base,
-        nodes: s.nodes,
-        found: s.found,
-        variables: s.variables,
-        most: s.most,
         least: 0,
+        ..s
     }
 }
 
@@ -174,16 +158,10 @@ fn has_room(s: Standing, length: usize) -> bool
     requires { s.top < 65536 }
     ensures { result ≡ true → (s.base ≤ 8192) × (s.top + 256 ≤ length) × (s.depth < 256) }
 {
-    if 8192 < s.base {
-        return false;
-    }
-    if length < s.top + 256 {
-        return false;
-    }
-    s.depth < 256
+    s.base <= 8192 && s.top + 256 <= length && s.depth < 256
 }
 
-// The words in use stay as they are. The first 387 words of the stack are a trial's, and those behind them the figures of the book's clauses.
+// The next goal and answer; none where no step is taken. The words in use stay as they are. The first 387 words of the stack are a trial's, and those behind them the figures of the book's clauses.
 pub fn take_step(
     book: &[u32],
     shelf: &[u16],
@@ -193,7 +171,7 @@ pub fn take_step(
     levels: &mut [u16],
     stack: &mut [u16],
     s: Standing,
-) -> Tread
+) -> Option<Standing>
     requires words_len_bound { (length words.old ≤ WORDS) × (length stack.old ≡ 1411) × Figured book.now shelf.now (drop 387 stack.old) }
     requires book_on { (P : Book) × (f : Expr) × (g : Goal) × (a : Goal) × BookOn book.now shelf.now P × Holds words.old cells.old levels.old s (f ∷ g) a }
     ensures words { take s.top words.new ≡ take s.top words.old }
@@ -201,7 +179,7 @@ pub fn take_step(
     ensures treads { (P : Book) (f : Expr) (g a : Goal) → BookOn book.now shelf.now P → Holds words.old cells.old levels.old s (f ∷ g) a → Treads P f g a words.new cells.new levels.new s result }
 {
     if !has_room(s, words.len()) {
-        return Tread::Stays;
+        return None;
     }
     match first_fit(
         book,
@@ -213,18 +191,16 @@ pub fn take_step(
         &mut stack[0..387],
         s,
     ) {
-        Found::Unsure => Tread::Stays,
-        Found::Given(_) => Tread::Goes(drop_first(words, levels, s)),
+        Found::Unsure => None,
+        Found::Given(_) => Some(drop_first(words, levels, s)),
         Found::Clause(i, count, known) => {
             let c = clause_at(book, shelf, &mut stack[387..1411], i);
             let end = s.top + (c.end - c.start);
-            match go(&words[0..end], cells, rows, levels, s, c, count, known) {
-                Tread::Goes(next) => Tread::Goes(next),
-                Tread::Stays => {
-                    release(cells, rows, s.base, count);
-                    Tread::Stays
-                }
+            let next = go(&words[0..end], cells, rows, levels, s, c, count, known);
+            if next.is_none() {
+                release(cells, rows, s.base, count);
             }
+            next
         }
     }
 }

@@ -1,5 +1,5 @@
 // How large the next goal and answer are at most, by what the trial has bound and what the clause's body adds.
-ghost use Rattle.std.specs.Prelude.{◌≡◌, ◌⊎◌, List, ℕ, ◌*◌, ◌≤◌, ◌<◌, length};
+ghost use Rattle.std.specs.Prelude.{◌≡◌, ◌⊎◌, IfSome, List, ℕ, ◌*◌, ◌≤◌, ◌<◌, length};
 ghost use Rattle.terms.specs.Node.{Expr};
 ghost use Rattle.search.specs.Next.{Clause, Goal};
 ghost use Rattle.bounds.specs.Sizing.{Weighed};
@@ -9,7 +9,7 @@ ghost use Rattle.heapgoals.specs.HoldLaws.{Fore};
 ghost use Rattle.treads.specs.Stepping.{IsUnderWay, body_rows, Bounded};
 ghost use Rattle.treads.specs.Adding.{span_words, Led, Adds, Often, Summed, Grows};
 
-use bounds::{OVER, Weight, larger, size_of, weight_of};
+use bounds::{OVER, Weight, size_of, weight_of};
 use figures::Figure;
 use heapgoals::Standing;
 use words::rows::CELLS;
@@ -40,10 +40,8 @@ fn led(least: usize, whole: bool, head: usize, first: usize) -> usize
     requires { (least ≤ 4096) × (first < 65536) }
     ensures { Led least whole head first result }
 {
-    if whole {
-        if head < least {
-            return least - head + first;
-        }
+    if whole && head < least {
+        return least - head + first;
     }
     first
 }
@@ -81,7 +79,7 @@ fn body_adds(heap: &[u32], cells: &[u16], levels: &mut [u16], s: Standing, c: Sp
     }
 }
 
-// The bounds of the next goal and answer; nodes OVER where they are not known to have room.
+// The bounds of the next goal and answer.
 #[derive(Clone, Copy)]
 pub struct Bounds {
     pub nodes: usize,
@@ -92,28 +90,6 @@ pub struct Bounds {
     pub names: usize,
 }
 
-fn unbounded() -> Bounds
-    ensures { result.nodes ≡ 65535 }
-{
-    Bounds {
-        nodes: OVER,
-        found: 0,
-        variables: 0,
-        most: 0,
-        least: 0,
-        names: 0,
-    }
-}
-
-fn smaller(a: usize, b: usize) -> usize
-    ensures { ((result ≡ a) ⊎ (result ≡ b)) × (result ≤ b) }
-{
-    if a < b {
-        return a;
-    }
-    b
-}
-
 // How often any one variable is in the next goal and answer, which have so many places of variables. Those of the body that the head has not are in neither before; where the body is counted, less is known.
 fn often(s: Standing, more: Added, times: usize, variables: usize) -> usize
     requires { (s.most ≤ 8192) × (times ≤ 553648129) }
@@ -122,7 +98,7 @@ fn often(s: Standing, more: Added, times: usize, variables: usize) -> usize
     if more.less == 0 {
         return variables;
     }
-    smaller(larger(more.variables, s.most * times), variables)
+    more.variables.max(s.most * times).min(variables)
 }
 
 // The places of variables in goal and answer that a trial has bound something at, where it has bound so many variables.
@@ -130,46 +106,47 @@ fn places_bound(s: Standing, count: usize) -> usize
     requires { (s.most ≤ 8192) × (count ≤ 8448) }
     ensures { ((result ≡ s.most * count) ⊎ (result ≡ s.variables)) × (result ≤ s.variables) }
 {
-    smaller(s.most * count, s.variables)
+    (s.most * count).min(s.variables)
 }
 
-// What is bound adds so many nodes to goal and answer each, and gives them so many places of variables; any one variable is so many times as often by it.
-fn bounded(s: Standing, more: Added, extra: usize, places: usize, times: usize) -> Bounds
+// What is bound adds so many nodes to goal and answer each, and gives them so many places of variables; any one variable is so many times as often by it. None where they are not known
+// to have room.
+fn bounded(s: Standing, more: Added, extra: usize, places: usize, times: usize) -> Option<Bounds>
     requires most_bound { (s.most ≤ 8192) × (s.nodes ≤ 4096) × (s.found ≤ 4096) × (more.nodes ≤ 65535) × (more.variables ≤ 65535) }
     requires extra_bound { (extra ≤ 536862720) × (places ≤ 536862720) × (times ≤ 553648129) }
-    ensures { (result.nodes ≡ 65535 → ⊥) → Summed s more extra places times result }
+    ensures { IfSome result (Summed s more extra places times) }
 {
     if more.nodes == OVER {
-        return unbounded();
+        return None;
     }
     let total = s.nodes + extra + more.nodes;
     if total < more.less {
-        return unbounded();
+        return None;
     }
     let nodes = total - more.less;
     let found = s.found + extra;
     if 4096 < nodes {
-        return unbounded();
+        return None;
     }
     if 4096 < found {
-        return unbounded();
+        return None;
     }
-    let variables = smaller(more.variables + places, nodes + found);
-    Bounds {
+    let variables = (more.variables + places).min(nodes + found);
+    Some(Bounds {
         nodes,
         found,
         variables,
         most: often(s, more, times, variables),
         least: more.least,
         names: more.names,
-    }
+    })
 }
 
 // By what a trial has bound, so many variables, which weigh so much.
-fn grown_by(s: Standing, more: Added, grown: Weight, count: usize) -> Bounds
+fn grown_by(s: Standing, more: Added, grown: Weight, count: usize) -> Option<Bounds>
     requires variables_bound { (s.variables ≤ 8192) × (s.most ≤ 8192) × (s.nodes ≤ 4096) × (s.found ≤ 4096) × (more.nodes ≤ 65535) × (more.variables ≤ 65535) × (count ≤ 8448) }
     requires le_nodes { (1 ≤ grown.nodes) × (grown.nodes ≤ 65535) × (grown.variables ≤ grown.nodes) × (grown.times ≤ 553648129) }
-    ensures { (result.nodes ≡ 65535 → ⊥) → Grows s more grown count result }
+    ensures { IfSome result (Grows s more grown count) }
 {
     let extra = places_bound(s, count) * (grown.nodes - 1);
     bounded(s, more, extra, s.variables * grown.variables, grown.times)
@@ -184,10 +161,10 @@ pub fn sized(
     c: Span,
     count: usize,
     known: Option<Weight>,
-) -> Bounds
+) -> Option<Bounds>
     requires { ((book : List ℕ) × (words : List ℕ) × (before : List ℕ) × (f : Expr) × (g : Goal) × (a : Goal) × (d : Clause) × IsUnderWay book words before levels.old s c heap.now cells.now rows.now count f g a d) × Weighed heap.now cells.now s.base (trail rows.now) count known }
     ensures levels { Fore levels.old levels.new }
-    ensures bounds { (result.nodes ≡ 65535 → ⊥) → (book words before : List ℕ) (f : Expr) (g a : Goal) (d : Clause) → IsUnderWay book words before levels.new s c heap.now cells.now rows.now count f g a d → Bounded heap.now cells.now levels.new s c result }
+    ensures bounds { IfSome result (λ r. (book words before : List ℕ) (f : Expr) (g a : Goal) (d : Clause) → IsUnderWay book words before levels.new s c heap.now cells.now rows.now count f g a d → Bounded heap.now cells.now levels.new s c r) }
 {
     let more = body_adds(heap, cells, &mut levels[514..1028], s, c);
     if count == 0 {

@@ -1,46 +1,28 @@
 -- No variable is bound any more.
-use Prim.Native.Nat.{ℕ, suc, ◌+◌, ◌<◌, ◌≤◌}
+use Prim.Native.Nat.{ℕ, ◌+◌, ◌<◌, ◌≤◌}
 use native.Mathlib.Omega.{arith}
-use native.Mathlib.Decide.{ℕ_discrete, dec_lt}
+use native.Mathlib.Decide.{dec_lt}
 use mathlib.Core.Path.{◌≡◌, refl, sym as inv, ap, ◌∙◌, subst}
+use mathlib.Core.Logic.{inl}
 use mathlib.Core.List.{List, ◌++◌}
-use lib.ListN.{length, set, take, drop, length-drop, get_or-eq_default}
-use lib.Seq.{get_or-set_same, get_or-set_other, length-take-le, take_at, drop_at}
+use lib.ListN.{length, take, drop, length-drop, get_or-eq_default}
+use lib.Seq.{length-take-le, take_at, drop_at}
 use Rattle.heap.specs.Heap.{bound}
 use Rattle.matching.specs.Binding.{Trailed, trail-none}
 use Rattle.matching.specs.Unifying.{Low, Begun, More, TrailKept}
 use Rattle.matching.specs.TrialLaws.{Free, trial-fits}
 use Rattle.matching.specs.declared.unifying.Trial.{Trial}
+use Rattle.heapgoals.specs.Rows.{Cleared}
 use Rattle.trials.specs.Trying.{trail, Undoable, Fitted}
 use borrow.Rule.Slice.PartMut.{put_mid}
 
--- the clause's variables below i are not bound, and the goal's as before
-pub record Cleared (before cells : List ℕ) (i : ℕ) : Type 0 where
-  pub low : (v : ℕ) → v < 8192 → bound cells v ≡ bound before v
-  pub high : (v : ℕ) → 8192 ≤ v → v < i → bound cells v ≡ 0
-  pub after : 8192 ≤ i
-  pub long : length cells ≡ 8256
-
-pub clear-start : (cells : List ℕ) → length cells ≡ 8256 → Cleared cells cells 8192
-clear-start cells l = record { low = λ v h. refl; high = λ v h k. absurd (omega (arith, h, k)); after = omega arith; long = l }
-
-pub clear-one : {before cells : List ℕ} {i : ℕ} → Cleared before cells i → i < 8256 → {n : ℕ} → n ≡ suc i → {z : List ℕ} → z ≡ set cells i 0 → length z ≡ length cells → Cleared before z n
-clear-one {before} {cells} {i} x l e ez lz = rw (e, ez) (record {
-  low = λ v h. get_or-set_other cells i v 0 0 (λ q. omega (arith, h, q, x.after)) ∙ x.low v h;
-  high = λ v h k. elim (ℕ_discrete v i) [
-    | yes q ↦ ap (bound (set cells i 0)) q ∙ get_or-set_same cells i 0 0 (omega (arith, l, x.long))
-    | no n ↦ get_or-set_other cells i v 0 0 n ∙ x.high v h (omega (arith, k, n))
-  ];
-  after = omega (arith, x.after);
-  long = ap length (inv ez) ∙ lz ∙ x.long;
-})
-
-pub clear-end : {before cells : List ℕ} {i : ℕ} → Cleared before cells i → 8256 ≤ i → ((v : ℕ) → v < 8192 → bound before v ≡ 0) → Free cells
-clear-end {before} {cells} x l low v = elim (dec_lt v 8192) [
-  | yes h ↦ x.low v h ∙ low v h
+-- where the goal's variables are not bound, and the clause's are cleared, none is
+pub free-again : {cells z : List ℕ} → length cells ≡ 8256 → ((v : ℕ) → v < 8192 → bound cells v ≡ 0) → Cleared cells 8192 8256 z → Free z
+free-again {cells} {z} l low x v = elim (dec_lt v 8192) [
+  | yes h ↦ x.outside v (inl h) ∙ low v h
   | no n ↦ elim (dec_lt v 8256) [
-    | yes k ↦ x.high v (omega (arith, n)) (omega (arith, k, l))
-    | no m ↦ get_or-eq_default cells 0 (omega (arith, m, x.long))
+    | yes k ↦ x.inside v (omega (arith, n)) k
+    | no m ↦ get_or-eq_default z 0 (omega (arith, m, l, x.long))
   ]
 ]
 

@@ -18,7 +18,7 @@ use Rattle.matching.specs.TrialLaws.{Free}
 use Rattle.trials.specs.Trying.{Attempted, Fronted, clause_words, laid, HeldTrial, Tested, Sought}
 use Rattle.trials.specs.declared.Attempt.{Attempt}
 use Rattle.trials.specs.declared.Attempt.TheVariants.{Fits, Clash, Tired}
-use Rattle.trials.specs.declared.Found.TheVariants as Seen
+use Rattle.std.specs.declared.option.Option.TheVariants.{Some}
 use Rattle.words.specs.Lists.{Found}
 use Rattle.picking.proofs.Picks.{Passed, passed-more, passed-found, picked-here}
 use Rattle.terms.specs.RowLaws.{row-long as row-long'}
@@ -120,7 +120,7 @@ fronted_still {words} {n} {f = f} {g} {a} x z e l = record { goal = x.goal; form
 
 -- one trial after those that failed
 module _ (P : Book) (f : Expr) (book shelf row row₀ z cells tables : List ℕ) (n i : ℕ) (v : Attempt) (t : Tested f (clause_at P i) row (clause_words book shelf (length P) i) z cells tables n v) where
-  pub found_here : (count : ℕ) → v ≡ Fits count → row ≡ row₀ → i < length P → Passed f P 0 i → Sought P f book shelf row₀ z cells tables n (Seen.Clause i count)
+  pub found_here : (count : ℕ) → v ≡ Fits count → row ≡ row₀ → i < length P → Passed f P 0 i → Sought P f book shelf row₀ z cells tables n (Some (record { clause = i; count = count }))
   found_here count e r l p =
       let y = subst (Tested f (clause_at P i) row (clause_words book shelf (length P) i) z cells tables n) e t in
       (picked-here f P 0 i (omega arith) l p y.0, l, subst (λ w. HeldTrial w (clause_words book shelf (length P) i) z cells tables n count) r y.1)

@@ -11,6 +11,8 @@ use Rattle.matching.specs.Binding.{Trailed}
 use Rattle.matching.specs.TrialLaws.{Free}
 use Rattle.trials.specs.declared.Attempt.{Attempt}
 use Rattle.trials.specs.declared.Attempt.TheVariants.{Fits, Clash, Tired}
+use Rattle.std.specs.declared.option.Option.{Option}
+use Rattle.std.specs.declared.option.Option.TheVariants.{None, Some}
 use Rattle.trials.specs.declared.Found.{Found}
 
 -- where the trail stands in the slice of tables: numbering leaves it alone
@@ -66,6 +68,6 @@ Tested f c row clause words cells tables n Clash = (Meets f c → ⊥) × Free c
 Tested f c row clause words cells tables n Tired = Free cells
 
 -- the first clause that fits, and its trial; or nothing is known
-abbrev pub Sought : Book → Expr → List ℕ → List ℕ → List ℕ → List ℕ → List ℕ → List ℕ → ℕ → Found → Type 0
-Sought P f book shelf row words cells tables n (Found.Clause i count) = Picked f P 0 i × (i < length P) × HeldTrial row (clause_words book shelf (length P) i) words cells tables n count
-Sought P f book shelf row words cells tables n Found.Unsure = Free cells
+abbrev pub Sought : Book → Expr → List ℕ → List ℕ → List ℕ → List ℕ → List ℕ → List ℕ → ℕ → Option Found → Type 0
+Sought P f book shelf row words cells tables n (Some r) = Picked f P 0 r.clause × (r.clause < length P) × HeldTrial row (clause_words book shelf (length P) r.clause) words cells tables n r.count
+Sought P f book shelf row words cells tables n None = Free cells

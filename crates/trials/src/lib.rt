@@ -36,19 +36,11 @@ pub const BASE: usize = 8192;
 fn begun(row: usize) -> Trial
     ensures { (k : ℕ) × (k ≤ 8448) × (result ≡ record { base = 8192; start = row; count = 0; fuel = k }) }
 {
-    if row < 4208 {
-        return Trial {
-            base: BASE,
-            start: row,
-            count: 0,
-            fuel: row + row + 32,
-        };
-    }
     Trial {
         base: BASE,
         start: row,
         count: 0,
-        fuel: 8448,
+        fuel: 2 * row.min(4208) + 32,
     }
 }
 
@@ -108,14 +100,14 @@ fn try_clause(
     try_rows(&words[0..r], cells, rows, n)
 }
 
-// The first clause that fits, by its number, and how many goal variables its trial has bound; or nothing is known.
+// A clause that fits, by its number, and how many goal variables its trial has bound.
 #[derive(Clone, Copy)]
-pub enum Found {
-    Clause(usize, usize),
-    Unsure,
+pub struct Found {
+    pub clause: usize,
+    pub count: usize,
 }
 
-// The first clause whose head unifies with the row's first formula.
+// The first clause whose head unifies with the row's first formula; none where nothing is known.
 pub fn first_fit(
     book: &[u32],
     shelf: &[u16],
@@ -124,7 +116,7 @@ pub fn first_fit(
     m: usize,
     cells: &mut [u16],
     rows: &mut [u16; CELLS],
-) -> Found
+) -> Option<Found>
     requires cells_len { (length cells.old ≡ 8256) × Free cells.old }
     requires fronted { ((P : Book) × BookOn book.now shelf.now P) × ((f : Expr) × (g : Goal) × (a : Goal) × Fronted words.old n m f g a) }
     ensures { (P : Book) (f : Expr) (g a : Goal) → BookOn book.now shelf.now P → Fronted words.old n m f g a → Sought P f book.now shelf.now (take n words.old) words.new cells.new rows.new n result }
@@ -134,10 +126,10 @@ pub fn first_fit(
     let mut i = find(book, shelf, u, 0);
     while i < all {
         match try_clause(book, shelf, words, n, m, i, cells, rows) {
-            Attempt::Fits(count) => return Found::Clause(i, count),
+            Attempt::Fits(count) => return Some(Found { clause: i, count }),
             Attempt::Clash => i = find_next(book, shelf, u, i),
-            Attempt::Tired => return Found::Unsure,
+            Attempt::Tired => return None,
         }
     }
-    Found::Unsure
+    None
 }

@@ -20,8 +20,9 @@ use Rattle.trials.specs.Trying.{Undoable, Fronted, clause_words, HeldTrial, Soug
 use Rattle.trying.specs.Stepping.{Shaped, IsSetUp, Quickly, Quickened}
 use Rattle.trials.specs.declared.Found.{Found}
 use Rattle.trying.specs.declared.stepping.Shape.{Shape}
-use Rattle.trying.specs.declared.stepping.Quick.{Quick}
-use Rattle.trying.specs.declared.stepping.Quick.TheVariants.{Unsure, Sure}
+use Rattle.std.specs.declared.option.Option.{Option}
+use Rattle.std.specs.declared.option.Option.TheVariants.{None, Some}
+use Rattle.resolve.specs.declared.Move.{Move}
 
 -- A copy.
 
@@ -47,31 +48,31 @@ module _ (words : List ℕ) (x : Shape) {f : Expr} {g a : Goal} (s : Shaped (tak
       short : (n : ℕ) (l : List ℕ) → length (take n l) ≡ n → n ≤ length l
       short n l e = omega (arith, e, length-take n l)
 
-  module _ {P : Book} {book shelf : List ℕ} (o : BookOn book shelf P) (z cells tables : List ℕ) (v : Found) (y : Sought P f book shelf (take x.row words) z cells tables x.row v) (i count : ℕ) (e : v ≡ Found.Clause i count) where
-    found : Picked f P 0 i × (i < length P) × HeldTrial (take x.row words) (clause_words book shelf (length P) i) z cells tables x.row count
+  module _ {P : Book} {book shelf : List ℕ} (o : BookOn book shelf P) (z cells tables : List ℕ) (v : Option Found) (y : Sought P f book shelf (take x.row words) z cells tables x.row v) (r : Found) (e : v ≡ Some r) where
+    found : Picked f P 0 r.clause × (r.clause < length P) × HeldTrial (take x.row words) (clause_words book shelf (length P) r.clause) z cells tables x.row r.count
     found = subst (Sought P f book shelf (take x.row words) z cells tables x.row) e y
 
     row_still : take x.row z ≡ take x.row words
     row_still =
-        let c = clause_words book shelf (length P) i in
+        let c = clause_words book shelf (length P) r.clause in
         inv (take-take x.row (x.row + length c) z (omega arith)) ∙ ap (take x.row) found.2.front ∙ take_at (take x.row words) (map (moved 8192) c) x.row s.long
 
-    pub set-up : IsSetUp book shelf z cells tables x i count P f g a
+    pub set-up : IsSetUp book shelf z cells tables x r.clause r.count P f g a
     set-up = record {
       on = o;
       inside = found.1;
       shaped = subst (λ w. Shaped w x f g a) (inv row_still) s;
-      trial = subst (λ w. HeldTrial w (clause_words book shelf (length P) i) z cells tables x.row count) (inv row_still) found.2;
+      trial = subst (λ w. HeldTrial w (clause_words book shelf (length P) r.clause) z cells tables x.row r.count) (inv row_still) found.2;
     }
 
-    pub trial-undoable : {later : List ℕ} → spare later ≡ spare tables → Undoable cells later count
+    pub trial-undoable : {later : List ℕ} → spare later ≡ spare tables → Undoable cells later r.count
     trial-undoable {later} same = let u = found.2.fitted.undoable in record {
       before = u.before;
       free = u.free;
-      trailed = subst (λ t. Trailed u.before cells (take 8448 t) 8192 count) (inv same) u.trailed;
+      trailed = subst (λ t. Trailed u.before cells (take 8448 t) 8192 r.count) (inv same) u.trailed;
       few = u.few;
     }
 
-    pub quickened : (out : List ℕ) (r : Quick) → Quickly P i f g a out r → Quickened P (f ∷ g) a out r
-    quickened out Unsure q = tt
-    quickened out (Sure m) q = moves o f g s.row.goal i found.0 found.1 a s.row.answer.formulas out m q
+    pub quickened : (out : List ℕ) (m : Option Move) → Quickly P r.clause f g a out m → Quickened P (f ∷ g) a out m
+    quickened out None q = tt
+    quickened out (Some m) q = moves o f g s.row.goal r.clause found.0 found.1 a s.row.answer.formulas out m q

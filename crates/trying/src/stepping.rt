@@ -9,10 +9,11 @@ ghost use Rattle.matching.specs.TrialLaws.{Free};
 ghost use Rattle.trying.specs.Stepping.{parts, concluded, Shaped, IsSetUp, Quickly, Quickened};
 
 use crate::carrying::{Next, Parts, write_next};
+pub use heapgoals::Sides;
 use picking::append;
 use resolve::{Front, Move};
+use trials::first_fit;
 use trials::resetting::release;
-use trials::{Found, first_fit};
 use words::rows::CELLS;
 use words::shelf::{BODY, HEAD, START, entry};
 use words::{OUT, WORDS};
@@ -26,13 +27,6 @@ pub struct Shape {
     pub first: usize,
     pub formulas: usize,
     pub answers: usize,
-}
-
-// What a trial on the heap comes to; or nothing is known.
-#[derive(Clone, Copy)]
-pub enum Quick {
-    Unsure,
-    Sure(Move),
 }
 
 // Where the body of the clause number i stands, put behind the row; and the rest.
@@ -62,15 +56,15 @@ fn end_of(shelf: &[u16], row: usize, i: usize) -> usize
     row + (t - s)
 }
 
-// What was written, as a move by the clause number i to a goal of so many formulas.
-fn concluded(next: Next, i: usize, formulas: usize) -> Quick
+// What was written, as a move by the clause number i to a goal of so many formulas; none where nothing is known.
+fn concluded(next: Next, i: usize, formulas: usize) -> Option<Move>
     ensures { result ≡ concluded next i formulas }
 {
     match next {
-        Next::Tired => Quick::Unsure,
-        Next::Full => Quick::Sure(Move::Full),
-        Next::Over => Quick::Sure(Move::Over),
-        Next::Done(goal, answer) => Quick::Sure(Move::To(i, goal, answer, formulas)),
+        Next::Tired => None,
+        Next::Full => Some(Move::Full),
+        Next::Over => Some(Move::Over),
+        Next::Done(goal, answer) => Some(Move::To(i, goal, answer, formulas)),
     }
 }
 
@@ -83,7 +77,7 @@ fn carry(
     cells: &[u16],
     rows: &mut [u16; CELLS],
     out: &mut [u32; OUT],
-) -> Quick
+) -> Option<Move>
     requires cells_len { length cells.now ≡ 8256 }
     requires by_index { (book : List ℕ) × (count : ℕ) × (P : Book) × (f : Expr) × (g : Goal) × (a : Goal) × IsSetUp book shelf.now words.now cells.now rows.old x i count P f g a }
     ensures quickly { (book : List ℕ) (count : ℕ) (P : Book) (f : Expr) (g a : Goal) → IsSetUp book shelf.now words.now cells.now rows.old x i count P f g a → Quickly P i f g a out.new result }
@@ -92,7 +86,7 @@ fn carry(
     let p = parts_of(shelf, x, i);
     let formulas = p.bodies + p.others;
     if 512 < formulas {
-        return Quick::Sure(Move::Full);
+        return Some(Move::Full);
     }
     let end = end_of(shelf, x.row, i);
     let next = write_next(&words[0..end], cells, rows, out, p);
@@ -108,29 +102,16 @@ fn on_heap(
     rows: &mut [u16; CELLS],
     out: &mut [u32; OUT],
     cells: &mut [u16],
-) -> Quick
+) -> Option<Move>
     requires cells_len { (length cells.old ≡ 8256) × Free cells.old }
     requires shaped { ((P : Book) × BookOn book.now shelf.now P) × ((f : Expr) × (g : Goal) × (a : Goal) × Shaped (take x.row words.old) x f g a) }
     ensures quickened { (P : Book) (f : Expr) (g a : Goal) → BookOn book.now shelf.now P → Shaped (take x.row words.old) x f g a → Quickened P (f ∷ g) a out.new result }
     ensures free { Free cells.new }
 {
-    match first_fit(book, shelf, words, x.row, x.first, cells, rows) {
-        Found::Clause(i, count) => {
-            let r = carry(shelf, words, x, i, cells, rows, out);
-            release(cells, rows, count);
-            r
-        }
-        Found::Unsure => Quick::Unsure,
-    }
-}
-
-// Of a row: how many words are its goal's and how many its goal's first formula's, and how many formulas goal and answer have.
-#[derive(Clone, Copy)]
-pub struct Sides {
-    pub words: usize,
-    pub first: usize,
-    pub formulas: usize,
-    pub answers: usize,
+    let found = first_fit(book, shelf, words, x.row, x.first, cells, rows)?;
+    let next = carry(shelf, words, x, found.clause, cells, rows, out);
+    release(cells, rows, found.count);
+    next
 }
 
 fn shape_of(row: &[u32], sides: Sides) -> Shape
@@ -164,8 +145,8 @@ pub fn advance(
     let x = shape_of(row, sides);
     append(words, 0, row, 0);
     match on_heap(book, shelf, x, words, rows, out, cells) {
-        Quick::Sure(next) => next,
-        Quick::Unsure => {
+        Some(next) => next,
+        None => {
             let front = Front {
                 words: sides.words,
                 formulas: sides.formulas,

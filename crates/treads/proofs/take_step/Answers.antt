@@ -5,8 +5,9 @@ use lib.Seq.{length-take-le}
 use Rattle.figures.specs.Figures.{Figured}
 use Rattle.heapgoals.specs.HoldLaws.{fore-after}
 use Rattle.attempts.specs.Trying.{Sought}
-use Rattle.treads.specs.Stepping.{Went}
-use Rattle.treads.proofs.Treading.{held_still, clause-few, end-inside, weighed-there, under_way, gone, figures-left, figures-lent, lent-long, figures-back, stack_long}
+use Rattle.treads.specs.Stepping.{Went, Treads}
+use Rattle.treads.proofs.Known.{none-if, some-if}
+use Rattle.treads.proofs.Treading.{held_still, clause-few, end-inside, weighed-there, under_way, gone, figures-left, figures-lent, lent-long, figures-back}
 use Rattle.treads.proofs.take_step.Goals as goal
 
 pub returns-then-not-has_room : goal.returns-then-not-has_room
@@ -30,8 +31,8 @@ overflow_add-end c = let t = (subst (Sought _ _ _ _ _ _ _ _ _ _) c.in-Clause.is 
 pub slice_bounds-go-end : goal.slice_bounds-go-end
 slice_bounds-go-end c = let t = (subst (Sought _ _ _ _ _ _ _ _ _ _) c.in-Clause.is (c.first_fit.ensures.sought _ _ _ _ c.requires.book_on.4 c.requires.book_on.5)) in let p = (c.clause_at-c.ensures.placed _ c.requires.book_on.4 t.1) in omega (arith, end-inside c.requires.book_on.4 c.requires.book_on.5 (c.has_room.ensures c.if-not-has_room.false).0 (c.has_room.ensures c.if-not-has_room.false).1 c.requires.words_len_bound.0 c.first_fit.auto.words c.first_fit.ensures.levels c.in-Clause.known t c.clause_at-c.result p.0 p.1)
 
-pub go-requires : goal.go-requires
-go-requires c = let t = (subst (Sought _ _ _ _ _ _ _ _ _ _) c.in-Clause.is (c.first_fit.ensures.sought _ _ _ _ c.requires.book_on.4 c.requires.book_on.5)) in let p = (c.clause_at-c.ensures.placed _ c.requires.book_on.4 t.1) in ((_, _, _, _, _, _, _, under_way c.requires.book_on.4 c.requires.book_on.5 (c.has_room.ensures c.if-not-has_room.false).0 (c.has_room.ensures c.if-not-has_room.false).1 c.requires.words_len_bound.0 c.first_fit.auto.words c.first_fit.ensures.levels c.in-Clause.known t c.clause_at-c.result p.0 p.1 c.clause_at-c.ensures.figure), (c.has_room.ensures c.if-not-has_room.false).2, weighed-there c.requires.book_on.4 c.requires.book_on.5 (c.has_room.ensures c.if-not-has_room.false).0 (c.has_room.ensures c.if-not-has_room.false).1 c.requires.words_len_bound.0 c.first_fit.auto.words c.first_fit.ensures.levels c.in-Clause.known t c.clause_at-c.result p.0 p.1)
+pub go-next-requires : goal.go-next-requires
+go-next-requires c = let t = (subst (Sought _ _ _ _ _ _ _ _ _ _) c.in-Clause.is (c.first_fit.ensures.sought _ _ _ _ c.requires.book_on.4 c.requires.book_on.5)) in let p = (c.clause_at-c.ensures.placed _ c.requires.book_on.4 t.1) in ((_, _, _, _, _, _, _, under_way c.requires.book_on.4 c.requires.book_on.5 (c.has_room.ensures c.if-not-has_room.false).0 (c.has_room.ensures c.if-not-has_room.false).1 c.requires.words_len_bound.0 c.first_fit.auto.words c.first_fit.ensures.levels c.in-Clause.known t c.clause_at-c.result p.0 p.1 c.clause_at-c.ensures.figure), (c.has_room.ensures c.if-not-has_room.false).2, weighed-there c.requires.book_on.4 c.requires.book_on.5 (c.has_room.ensures c.if-not-has_room.false).0 (c.has_room.ensures c.if-not-has_room.false).1 c.requires.words_len_bound.0 c.first_fit.auto.words c.first_fit.ensures.levels c.in-Clause.known t c.clause_at-c.result p.0 p.1)
 
 pub release-requires : goal.release-requires
 release-requires c = let t = (subst (Sought _ _ _ _ _ _ _ _ _ _) c.in-Clause.is (c.first_fit.ensures.sought _ _ _ _ c.requires.book_on.4 c.requires.book_on.5)) in let p = (c.clause_at-c.ensures.placed _ c.requires.book_on.4 t.1) in (c.first_fit.auto.cells ∙ c.requires.book_on.5.cells_long, (c.has_room.ensures c.if-not-has_room.false).0, (_, t.2.fitted.undoable))
@@ -42,32 +43,8 @@ returns-in-Unsure c = record { words = c.first_fit.ensures.words; figured = subs
 pub returns-in-Given : goal.returns-in-Given
 returns-in-Given c = record { words = c.first_fit.ensures.words; figured = subst (Figured _ _) (inv (figures-left c.args.stack.now c.first_fit.new.stack c.requires.words_len_bound.1 c.first_fit.auto.stack)) c.requires.words_len_bound.2; treads = λ P f g a o h. let t = (subst (Sought _ _ _ _ _ _ _ _ _ _) c.in-Given.is (c.first_fit.ensures.sought P f g a o h)) in given-gone o h t.0 t.1 t.2 c.first_fit.ensures.words c.first_fit.auto.words t.3 c.first_fit.ensures.levels c.drop_first.ensures.top c.drop_first.ensures.held }
 
-pub shape_of-words-in-Goes : goal.shape_of-words-in-Goes
-shape_of-words-in-Goes c = c.first_fit.auto.words
+pub returns-else-is_none : goal.returns-else-is_none
+returns-else-is_none c = record { words = c.first_fit.ensures.words; figured = subst (Figured _ _) (inv (figures-back c.args.stack.now c.first_fit.new.stack c.requires.words_len_bound.1 c.first_fit.auto.stack c.clause_at-c.new.figures c.clause_at-c.auto.figures)) c.clause_at-c.ensures.figured; treads = λ P f g a o h. let t = (subst (Sought _ _ _ _ _ _ _ _ _ _) c.in-Clause.is (c.first_fit.ensures.sought P f g a o h)) in let p = (c.clause_at-c.ensures.placed _ o t.1) in let (t', e) = some-if c.go-next.result c.is_none.ensures c.if-is_none.false in subst (Treads P f g a _ _ _ _) (inv e) (gone o h (c.has_room.ensures c.if-not-has_room.false).0 (c.has_room.ensures c.if-not-has_room.false).1 c.requires.words_len_bound.0 c.first_fit.auto.words c.first_fit.ensures.levels c.in-Clause.known t c.clause_at-c.result p.0 p.1 c.clause_at-c.ensures.figure (subst (Went _ _ _ _ _ _ _ _) e c.go-next.ensures)) }
 
-pub shape_of-cells-in-Goes : goal.shape_of-cells-in-Goes
-shape_of-cells-in-Goes c = c.first_fit.auto.cells
-
-pub shape_of-levels-in-Goes : goal.shape_of-levels-in-Goes
-shape_of-levels-in-Goes c = c.go.auto.levels ∙ c.first_fit.auto.levels
-
-pub shape_of-stack-in-Goes : goal.shape_of-stack-in-Goes
-shape_of-stack-in-Goes c = stack_long c.args.stack.now c.first_fit.new.stack c.requires.words_len_bound.1 c.first_fit.auto.stack c.clause_at-c.new.figures c.clause_at-c.auto.figures
-
-pub returns-in-Goes : goal.returns-in-Goes
-returns-in-Goes c = record { words = c.first_fit.ensures.words; figured = subst (Figured _ _) (inv (figures-back c.args.stack.now c.first_fit.new.stack c.requires.words_len_bound.1 c.first_fit.auto.stack c.clause_at-c.new.figures c.clause_at-c.auto.figures)) c.clause_at-c.ensures.figured; treads = λ P f g a o h. let t = (subst (Sought _ _ _ _ _ _ _ _ _ _) c.in-Clause.is (c.first_fit.ensures.sought P f g a o h)) in let p = (c.clause_at-c.ensures.placed _ o t.1) in gone o h (c.has_room.ensures c.if-not-has_room.false).0 (c.has_room.ensures c.if-not-has_room.false).1 c.requires.words_len_bound.0 c.first_fit.auto.words c.first_fit.ensures.levels c.in-Clause.known t c.clause_at-c.result p.0 p.1 c.clause_at-c.ensures.figure (subst (Went _ _ _ _ _ _ _ _) c.in-Goes.is c.go.ensures) }
-
-pub shape_of-words-in-Stays : goal.shape_of-words-in-Stays
-shape_of-words-in-Stays c = c.first_fit.auto.words
-
-pub shape_of-cells-in-Stays : goal.shape_of-cells-in-Stays
-shape_of-cells-in-Stays c = c.release.auto.cells ∙ c.first_fit.auto.cells
-
-pub shape_of-levels-in-Stays : goal.shape_of-levels-in-Stays
-shape_of-levels-in-Stays c = c.go.auto.levels ∙ c.first_fit.auto.levels
-
-pub shape_of-stack-in-Stays : goal.shape_of-stack-in-Stays
-shape_of-stack-in-Stays c = stack_long c.args.stack.now c.first_fit.new.stack c.requires.words_len_bound.1 c.first_fit.auto.stack c.clause_at-c.new.figures c.clause_at-c.auto.figures
-
-pub returns-in-Stays : goal.returns-in-Stays
-returns-in-Stays c = record { words = c.first_fit.ensures.words; figured = subst (Figured _ _) (inv (figures-back c.args.stack.now c.first_fit.new.stack c.requires.words_len_bound.1 c.first_fit.auto.stack c.clause_at-c.new.figures c.clause_at-c.auto.figures)) c.clause_at-c.ensures.figured; treads = λ P f g a o h. let t = (subst (Sought _ _ _ _ _ _ _ _ _ _) c.in-Clause.is (c.first_fit.ensures.sought P f g a o h)) in held_still h c.first_fit.ensures.words c.first_fit.auto.words (fore-after c.first_fit.ensures.levels (subst (Went _ _ _ _ _ _ _ _) c.in-Stays.is c.go.ensures)) (c.release.ensures _ t.2.fitted.undoable) }
+pub returns-then-is_none : goal.returns-then-is_none
+returns-then-is_none c = record { words = c.first_fit.ensures.words; figured = subst (Figured _ _) (inv (figures-back c.args.stack.now c.first_fit.new.stack c.requires.words_len_bound.1 c.first_fit.auto.stack c.clause_at-c.new.figures c.clause_at-c.auto.figures)) c.clause_at-c.ensures.figured; treads = λ P f g a o h. let t = (subst (Sought _ _ _ _ _ _ _ _ _ _) c.in-Clause.is (c.first_fit.ensures.sought P f g a o h)) in let e = none-if c.go-next.result c.is_none.ensures c.if-is_none.true in subst (Treads P f g a _ _ _ _) (inv e) (held_still h c.first_fit.ensures.words c.first_fit.auto.words (fore-after c.first_fit.ensures.levels (subst (Went _ _ _ _ _ _ _ _) e c.go-next.ensures)) (c.release.ensures _ t.2.fitted.undoable)) }

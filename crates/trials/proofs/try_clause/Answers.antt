@@ -14,17 +14,8 @@ entry-s-requires c = (search rules, omega (arith, c.requires.fronted.0.2, c.requ
 pub entry-e-requires : goal.entry-e-requires
 entry-e-requires c = (search rules, omega (arith, c.requires.fronted.0.2, c.requires.fronted.0.1.held.few), omega (arith, c.requires.fronted.0.2, c.requires.fronted.0.1.long))
 
-pub slice_bounds-told_apart-count : goal.slice_bounds-told_apart-count
-slice_bounds-told_apart-count c = search rules
-
-pub slice_bounds-told_apart-start : goal.slice_bounds-told_apart-start
-slice_bounds-told_apart-start c = search rules
-
 pub slice_bounds-told_apart-end : goal.slice_bounds-told_apart-end
 slice_bounds-told_apart-end c = omega (arith, first_part c.requires.fronted.1.3)
-
-pub offset_bounds-book-s : goal.offset_bounds-book-s
-offset_bounds-book-s c = search rules
 
 pub slice_bounds-told_apart-count-2 : goal.slice_bounds-told_apart-count-2
 slice_bounds-told_apart-count-2 c = omega (arith, (placed_at c.requires.fronted.0.1 c.args.i _ _ c.requires.fronted.0.2 c.entry-s.ensures.0 c.entry-e.ensures.0).begins)
@@ -47,9 +38,6 @@ overflow_add-i c = record { fits = omega (arith, c.requires.fronted.0.2, c.requi
 pub entry-t-requires : goal.entry-t-requires
 entry-t-requires c = (search rules, omega (arith, c.requires.fronted.0.2, c.requires.fronted.0.1.held.few), omega (arith, c.requires.fronted.0.2, c.requires.fronted.0.1.long))
 
-pub offset_bounds-book-s-2 : goal.offset_bounds-book-s-2
-offset_bounds-book-s-2 c = search rules
-
 pub slice_bounds-append-count : goal.slice_bounds-append-count
 slice_bounds-append-count c = omega (arith, (clause-ends c.requires.fronted.0.1 c.args.i _ _ c.requires.fronted.0.2 c.entry-s.ensures.0 c.entry-t.ensures.0).0)
 
@@ -62,20 +50,11 @@ slice_bounds-append-end c = omega (arith, (clause-ends c.requires.fronted.0.1 c.
 pub append-r-requires : goal.append-r-requires
 append-r-requires c = (omega (arith, row-short c.requires.fronted.1.3, ap length (clause-is c.requires.fronted.0.1 c.args.i _ _ c.requires.fronted.0.2 c.entry-s.ensures.0 c.entry-t.ensures.0), (clause-held c.requires.fronted.0.1 c.args.i _ _ c.requires.fronted.0.2 c.entry-s.ensures.0 c.entry-t.ensures.0).size), omega arith, omega arith, clause-valid c.requires.fronted.0.1 c.args.i _ _ c.requires.fronted.0.2 c.entry-s.ensures.0 c.entry-t.ensures.0)
 
-pub slice_bounds-try_rows-count : goal.slice_bounds-try_rows-count
-slice_bounds-try_rows-count c = search rules
-
-pub slice_bounds-try_rows-start : goal.slice_bounds-try_rows-start
-slice_bounds-try_rows-start c = search rules
-
 pub slice_bounds-try_rows-end : goal.slice_bounds-try_rows-end
 slice_bounds-try_rows-end c = omega (arith, c.append-r.auto.dst, heap-end c.requires.fronted.1.3 _ (clause_words c.args.book.now c.args.shelf.now (length c.requires.fronted.0.0) c.args.i) c.append-r.new.dst _ _ _ (clause_at c.requires.fronted.0.0 c.args.i) c.append-r.ensures (clause-is c.requires.fronted.0.1 c.args.i _ _ c.requires.fronted.0.2 c.entry-s.ensures.0 c.entry-t.ensures.0) (clause-held c.requires.fronted.0.1 c.args.i _ _ c.requires.fronted.0.2 c.entry-s.ensures.0 c.entry-t.ensures.0), row-short c.requires.fronted.1.3, (clause-held c.requires.fronted.0.1 c.args.i _ _ c.requires.fronted.0.2 c.entry-s.ensures.0 c.entry-t.ensures.0).size)
 
 pub try_rows-requires : goal.try_rows-requires
 try_rows-requires c = (lent-made c.requires.fronted.1.3 _ (clause_words c.args.book.now c.args.shelf.now (length c.requires.fronted.0.0) c.args.i) c.append-r.new.dst _ _ _ (clause_at c.requires.fronted.0.0 c.args.i) c.append-r.ensures (clause-is c.requires.fronted.0.1 c.args.i _ _ c.requires.fronted.0.2 c.entry-s.ensures.0 c.entry-t.ensures.0) (clause-held c.requires.fronted.0.1 c.args.i _ _ c.requires.fronted.0.2 c.entry-s.ensures.0 c.entry-t.ensures.0) _ c.requires.cells_len.0 c.requires.cells_len.1, c.requires.cells_len.1, c.requires.cells_len.0, lent-formula c.requires.fronted.1.3 _ (clause_words c.args.book.now c.args.shelf.now (length c.requires.fronted.0.0) c.args.i) c.append-r.new.dst _ _ _ (clause_at c.requires.fronted.0.0 c.args.i) c.append-r.ensures (clause-is c.requires.fronted.0.1 c.args.i _ _ c.requires.fronted.0.2 c.entry-s.ensures.0 c.entry-t.ensures.0) (clause-held c.requires.fronted.0.1 c.args.i _ _ c.requires.fronted.0.2 c.entry-s.ensures.0 c.entry-t.ensures.0), lent-head c.requires.fronted.1.3 _ (clause_words c.args.book.now c.args.shelf.now (length c.requires.fronted.0.0) c.args.i) c.append-r.new.dst _ _ _ (clause_at c.requires.fronted.0.0 c.args.i) c.append-r.ensures (clause-is c.requires.fronted.0.1 c.args.i _ _ c.requires.fronted.0.2 c.entry-s.ensures.0 c.entry-t.ensures.0) (clause-held c.requires.fronted.0.1 c.args.i _ _ c.requires.fronted.0.2 c.entry-s.ensures.0 c.entry-t.ensures.0), lent-low c.requires.fronted.1.3 _ (clause_words c.args.book.now c.args.shelf.now (length c.requires.fronted.0.0) c.args.i) c.append-r.new.dst _ _ _ (clause_at c.requires.fronted.0.0 c.args.i) c.append-r.ensures (clause-is c.requires.fronted.0.1 c.args.i _ _ c.requires.fronted.0.2 c.entry-s.ensures.0 c.entry-t.ensures.0) (clause-held c.requires.fronted.0.1 c.args.i _ _ c.requires.fronted.0.2 c.entry-s.ensures.0 c.entry-t.ensures.0))
-
-pub shape_of-cells : goal.shape_of-cells
-shape_of-cells c = search rules
 
 pub returns : goal.returns
 returns c = record { row = row_kept c.requires.fronted.1.3 _ (clause_words c.args.book.now c.args.shelf.now (length c.requires.fronted.0.0) c.args.i) c.append-r.new.dst _ _ _ (clause_at c.requires.fronted.0.0 c.args.i) c.append-r.ensures (clause-is c.requires.fronted.0.1 c.args.i _ _ c.requires.fronted.0.2 c.entry-s.ensures.0 c.entry-t.ensures.0) (clause-held c.requires.fronted.0.1 c.args.i _ _ c.requires.fronted.0.2 c.entry-s.ensures.0 c.entry-t.ensures.0) (omega (arith, c.append-r.auto.dst, heap-end c.requires.fronted.1.3 _ (clause_words c.args.book.now c.args.shelf.now (length c.requires.fronted.0.0) c.args.i) c.append-r.new.dst _ _ _ (clause_at c.requires.fronted.0.0 c.args.i) c.append-r.ensures (clause-is c.requires.fronted.0.1 c.args.i _ _ c.requires.fronted.0.2 c.entry-s.ensures.0 c.entry-t.ensures.0) (clause-held c.requires.fronted.0.1 c.args.i _ _ c.requires.fronted.0.2 c.entry-s.ensures.0 c.entry-t.ensures.0), row-short c.requires.fronted.1.3, (clause-held c.requires.fronted.0.1 c.args.i _ _ c.requires.fronted.0.2 c.entry-s.ensures.0 c.entry-t.ensures.0).size)); tested = λ P f g a o l x. tested x _ (clause_words c.args.book.now c.args.shelf.now (length P) c.args.i) c.append-r.new.dst _ _ _ (clause_at P c.args.i) c.append-r.ensures (clause-is o c.args.i _ _ l c.entry-s.ensures.0 c.entry-t.ensures.0) (clause-held o c.args.i _ _ l c.entry-s.ensures.0 c.entry-t.ensures.0) _ _ c.try_rows.result c.try_rows.ensures }

@@ -8,6 +8,7 @@ use Rattle.heapgoals.specs.HoldLaws.{fore-after}
 use Rattle.figures.specs.FigureLaws.{known-most}
 use Rattle.matching.proofs.HangLaws.{none-weighed}
 use Rattle.attempts.proofs.Undoing.{trail_long, fore-part}
+use Rattle.std.proofs.lemmas.Option.{IfSome_then}
 use Rattle.treads.proofs.Summing.{nothing-charged}
 use Rattle.treads.proofs.UnderWay.{bounds_hold}
 use Rattle.treads.proofs.sizing.sized.Goals as goal
@@ -25,7 +26,7 @@ pub bounded-requires : goal.bounded-requires
 bounded-requires c = let x = c.body_adds-more.ensures _ _ _ _ _ _ _ _ _ _ c.requires.0.7 in record { most_bound = (c.requires.0.7.held.often_room, c.requires.0.7.held.goal_room, c.requires.0.7.held.answer_room, known-most c.body_adds-more.result.nodes 256 (omega arith) x.small, x.spread); extra_bound = (omega arith, omega (arith, c.requires.0.7.held.variables_room), omega arith) }
 
 pub returns-then-count-eq0 : goal.returns-then-count-eq0
-returns-then-count-eq0 c = record { levels = fore-part c.args.levels.now c.body_adds-more.new.levels c.requires.0.7.held.levels_long c.body_adds-more.auto.levels; bounds = λ n book words before f g a d v. bounds_hold v (record { nodes = 1; variables = 1; times = 1 }) (none-weighed c.if-count-eq0.true refl) c.body_adds-more.result (c.body_adds-more.ensures _ _ _ _ _ _ _ _ _ _ v) c.bounded.result (0, _, 1, nothing-charged c.args.s c.args.count, c.bounded.ensures n) }
+returns-then-count-eq0 c = record { levels = fore-part c.args.levels.now c.body_adds-more.new.levels c.requires.0.7.held.levels_long c.body_adds-more.auto.levels; bounds = IfSome_then c.bounded.result c.bounded.ensures (λ r y book words before f g a d v. bounds_hold v (record { nodes = 1; variables = 1; times = 1 }) (none-weighed c.if-count-eq0.true refl) c.body_adds-more.result (c.body_adds-more.ensures _ _ _ _ _ _ _ _ _ _ v) r (0, _, 1, nothing-charged c.args.s c.args.count, y)) }
 
 pub slice_bounds-weight_of-count : goal.slice_bounds-weight_of-count
 slice_bounds-weight_of-count c = omega arith
@@ -49,4 +50,4 @@ pub returns-in_default-clause-levels : goal.returns-in_default-clause-levels
 returns-in_default-clause-levels c = let l = put_mid 514 514 c.args.levels.now c.body_adds-more.new.levels in fore-after (fore-part c.args.levels.now c.body_adds-more.new.levels c.requires.0.7.held.levels_long c.body_adds-more.auto.levels) (fore-part l c.weight_of.new.levels (same_len_mid 514 514 c.args.levels.now c.body_adds-more.new.levels c.body_adds-more.auto.levels ∙ c.requires.0.7.held.levels_long) c.weight_of.auto.levels)
 
 pub returns : goal.returns
-returns c = let l = put_mid 514 514 c.args.levels.now c.body_adds-more.new.levels in record { levels = fore-after (fore-part c.args.levels.now c.body_adds-more.new.levels c.requires.0.7.held.levels_long c.body_adds-more.auto.levels) (fore-part l c.weight_of.new.levels (same_len_mid 514 514 c.args.levels.now c.body_adds-more.new.levels c.body_adds-more.auto.levels ∙ c.requires.0.7.held.levels_long) c.weight_of.auto.levels); bounds = λ n book words before f g a d v. bounds_hold v c.in-Some.grown (c.in-Some.ensures _ c.requires.1) c.body_adds-more.result (c.body_adds-more.ensures _ _ _ _ _ _ _ _ _ _ v) c.grown_by.result (c.grown_by.ensures n) }
+returns c = let l = put_mid 514 514 c.args.levels.now c.body_adds-more.new.levels in record { levels = fore-after (fore-part c.args.levels.now c.body_adds-more.new.levels c.requires.0.7.held.levels_long c.body_adds-more.auto.levels) (fore-part l c.weight_of.new.levels (same_len_mid 514 514 c.args.levels.now c.body_adds-more.new.levels c.body_adds-more.auto.levels ∙ c.requires.0.7.held.levels_long) c.weight_of.auto.levels); bounds = IfSome_then c.grown_by.result c.grown_by.ensures (λ r y book words before f g a d v. bounds_hold v c.in-Some.grown (c.in-Some.ensures _ c.requires.1) c.body_adds-more.result (c.body_adds-more.ensures _ _ _ _ _ _ _ _ _ _ v) r y) }
