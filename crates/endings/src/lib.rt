@@ -16,12 +16,7 @@ pub fn refused(a: Admitted) -> Answer
     Answer {
         code: a.code,
         place: a.place,
-        steps: 0,
-        span: 0,
-        bytes: 0,
-        answer: 0,
-        furthest: 0,
-        argument: 0,
+        ..Answer::default()
     }
 }
 
@@ -44,8 +39,5 @@ pub fn answered(e: Ended, bytes: usize, answer: usize) -> Answer
 pub fn shorter(a: usize, b: usize) -> usize
     ensures { result ≡ min a b }
 {
-    if b < a {
-        return b;
-    }
-    a
+    a.min(b)
 }

@@ -12,7 +12,7 @@ pub fn pack(code: u8, field: u32, steps: u32) -> u64
     requires { field < 2 ^ 24 }
     ensures { result ≡ code + 256 * field + 2 ^ 32 * steps }
 {
-    (code as u64) | ((field as u64) << 8) | ((steps as u64) << 32)
+    u64::from(code) | (u64::from(field) << 8) | (u64::from(steps) << 32)
 }
 
 pub fn number(a: Answer) -> u64

@@ -1,5 +1,6 @@
 -- What is refused, case by case.
-use Rattle.std.specs.Prelude.{ℕ, ◌≤◌, ◌<◌, ◌≡◌, List}
+use Rattle.std.specs.Prelude.{ℕ, ◌≤◌, ◌<◌, ◌≡◌, List, MatchResult, ⊤}
+use Rattle.std.specs.declared.result.Result.{Result}
 use Rattle.std.proofs.Common.{arith, lt-ltb, le-ltb, ne_eqb, sym as inv, ap, ◌∙◌}
 use Rattle.std.proofs.Math.Decide.{dec_lt}
 use Rattle.format.specs.Reading.{book_verdict, query_verdict, Askable}
@@ -24,6 +25,10 @@ module _ (book query : List ℕ) (room : ℕ) where
 
     pub query_decides : (book_verdict book).code ≡ 0 → refusal book query room ≡ record { code = (query_verdict book query).code; place = (query_verdict book query).place }
     query_decides z = both_decide
+
+-- what is told of an input: that nothing of it is refused, or its refusal
+abbrev pub Admits : List ℕ → List ℕ → ℕ → Result ⊤ Admitted → Type 0
+Admits book query room r = MatchResult r (λ _. (refusal book query room).code ≡ 0) (λ a. (a ≡ refusal book query room) × ((refusal book query room).code ≡ 0 → ⊥))
 
 -- what is not refused is good
 pub record Good (book query : List ℕ) (room : ℕ) : Type 0 where

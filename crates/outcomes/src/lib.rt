@@ -6,7 +6,7 @@ pub mod admit; // what is refused
 
 // What a run answers: "Result: code, place, steps, span, bytes written."; "the answer's bytes" (document 02, C-11); and with code 22 the clause
 // that got furthest and the argument at which its head fails, which are 0 with every other code (C-19). So it is with the pick and the single step.
-#[derive(Clone, Copy)]
+#[derive(Clone, Copy, Default)]
 pub struct Answer {
     pub code: u8,
     pub place: u32,
@@ -19,7 +19,7 @@ pub struct Answer {
 }
 
 // What a pick answers: code, place, steps, and the clause's number.
-#[derive(Clone, Copy)]
+#[derive(Clone, Copy, Default)]
 pub struct Picked {
     pub code: u8,
     pub place: u32,
@@ -30,7 +30,7 @@ pub struct Picked {
 }
 
 // What a single step answers, and the apply call: as a run, with the clause number.
-#[derive(Clone, Copy)]
+#[derive(Clone, Copy, Default)]
 pub struct Stepped {
     pub code: u8,
     pub place: u32,

@@ -26,10 +26,7 @@ fn refused(a: Admitted) -> Picked
     Picked {
         code: a.code,
         place: a.place,
-        steps: 0,
-        clause: 0,
-        furthest: 0,
-        argument: 0,
+        ..Picked::default()
     }
 }
 
@@ -39,11 +36,8 @@ fn picked(code: u8, clause: usize) -> Picked
 {
     Picked {
         code,
-        place: 0,
-        steps: 0,
         clause: clause as u32,
-        furthest: 0,
-        argument: 0,
+        ..Picked::default()
     }
 }
 
@@ -54,11 +48,9 @@ fn stuck(furthest: usize, argument: usize) -> Picked
 {
     Picked {
         code: 22,
-        place: 0,
-        steps: 0,
-        clause: 0,
         furthest: furthest as u32,
         argument: argument as u32,
+        ..Picked::default()
     }
 }
 
@@ -108,58 +100,44 @@ fn from_bytes(
     let clauses = open_book(book, words, shelf);
     let opened = open_query(query, goal);
     let used = 4 * clauses + 260;
-    let n = opened.words;
-    from_goal(words, &shelf[..used], &goal[..n], opened.formulas)
+    from_goal(
+        words,
+        &shelf[..used],
+        &goal[..opened.words],
+        opened.formulas,
+    )
 }
 
-// The same with words lent that are enough for the book, and the rest of its storage its own.
-fn with_words(book: &[u8], query: &[u8], words: &mut [u32]) -> Picked
+// The same with storage of its own, with room for N words of the book.
+fn with_words<const N: usize>(book: &[u8], query: &[u8]) -> Picked
     requires good { Good book.now query.now 16387 }
-    requires book_len_bound { length book.now ≤ 3 * length words.old + 2 }
+    requires book_len_bound { (length book.now ≤ 3 * N + 2) × (N ≤ 10922) }
     ensures { result ≡ pick_said (book_of book.now) (goal_of query.now) (Pick.pick (book_of book.now) (goal_of query.now)) }
 {
+    let mut words = [0u32; N];
     let mut shelf = [0u16; 2308];
     let mut goal = [0u32; 4096];
-    from_bytes(book, query, words, &mut shelf, &mut goal)
+    from_bytes(book, query, &mut words, &mut shelf, &mut goal)
 }
 
-// For a book of up to 9,216 bytes, with a quarter of the words that any may need: clearing them takes time.
-fn from_short(book: &[u8], query: &[u8]) -> Picked
-    requires good { Good book.now query.now 16387 }
-    requires book_len_bound { length book.now ≤ 9216 }
-    ensures { result ≡ pick_said (book_of book.now) (goal_of query.now) (Pick.pick (book_of book.now) (goal_of query.now)) }
-{
-    let mut words = [0u32; 3072];
-    with_words(book, query, &mut words)
-}
-
-// For any book.
-fn from_long(book: &[u8], query: &[u8]) -> Picked
-    requires { Good book.now query.now 16387 }
-    ensures { result ≡ pick_said (book_of book.now) (goal_of query.now) (Pick.pick (book_of book.now) (goal_of query.now)) }
-{
-    let mut words = [0u32; 10922];
-    with_words(book, query, &mut words)
-}
-
-// The same with storage of its own. The words are another function's, so that those for long books take no room beside those for short ones.
+// A book of up to 9,216 bytes gets a quarter of the words that any may need: clearing them takes time. Each number of words has a function of its own, so
+// that those for long books take no room beside those for short ones.
 fn from_good(book: &[u8], query: &[u8]) -> Picked
     requires { Good book.now query.now 16387 }
     ensures { result ≡ pick_said (book_of book.now) (goal_of query.now) (Pick.pick (book_of book.now) (goal_of query.now)) }
 {
     if book.len() <= 9216 {
-        return from_short(book, query);
+        return with_words::<3072>(book, query);
     }
-    from_long(book, query)
+    with_words::<10922>(book, query)
 }
 
 // "One call picks the clause." It lends no area, so that none can be too short.
 pub fn pick(book: &[u8], query: &[u8]) -> Picked
     ensures { result ≡ pick_answer book.now query.now }
 {
-    let a = admit(book, query, 16387);
-    if a.code == 0 {
-        return from_good(book, query);
+    match admit(book, query, 16387) {
+        Ok(()) => from_good(book, query),
+        Err(refusal) => refused(refusal),
     }
-    refused(a)
 }

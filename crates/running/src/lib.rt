@@ -37,27 +37,27 @@ fn from_goal(
 }
 
 // "A run with code 20 to 24 leaves the final goal's image at the front. Past the image the area keeps its bytes." "The goal area and the answer
-// area hold the goal and the instance at the closing state" (document 02, C-11).
-fn from_bytes(
+// area hold the goal and the instance at the closing state" (document 02, C-11). There is room for N words of the book.
+fn with_words<const N: usize>(
     book: &[u8],
     query: &[u8],
     budget: u32,
     area: &mut [u8],
     answer: &mut [u8],
-    words: &mut [u32],
     rows: &mut [u16; CELLS],
 ) -> Answer
     requires good { Good book.now query.now (min (length area.old) (length answer.old)) }
-    requires book_len_bound { length book.now ≤ 3 * length words.old + 2 }
+    requires book_len_bound { (length book.now ≤ 3 * N + 2) × (N ≤ 10922) }
     ensures { Leaves (book_of book.now) (closing book.now query.now budget) area.old answer.old result area.new answer.new }
 {
+    let mut words = [0u32; N];
     let mut shelf = [0u16; 2308];
     let mut goal = [0u32; WORDS];
-    let clauses = open_book(book, words, &mut shelf);
+    let clauses = open_book(book, &mut words, &mut shelf);
     let opened = open_row(query, &mut goal);
     let used = 4 * clauses + 260;
     let e = from_goal(
-        words,
+        &words,
         &shelf[..used],
         &mut goal,
         rows,
@@ -75,48 +75,17 @@ fn from_bytes(
     answered(e, bytes, said)
 }
 
-// A book of up to 9,216 bytes has a quarter of the words that any may have: clearing them takes time.
-fn from_short(
-    book: &[u8],
-    query: &[u8],
-    budget: u32,
-    area: &mut [u8],
-    answer: &mut [u8],
-    rows: &mut [u16; CELLS],
-) -> Answer
-    requires good { Good book.now query.now (min (length area.old) (length answer.old)) }
-    requires book_len_bound { length book.now ≤ 9216 }
-    ensures { Leaves (book_of book.now) (closing book.now query.now budget) area.old answer.old result area.new answer.new }
-{
-    let mut words = [0u32; 3072];
-    from_bytes(book, query, budget, area, answer, &mut words, rows)
-}
-
-fn from_long(
-    book: &[u8],
-    query: &[u8],
-    budget: u32,
-    area: &mut [u8],
-    answer: &mut [u8],
-    rows: &mut [u16; CELLS],
-) -> Answer
-    requires good { Good book.now query.now (min (length area.old) (length answer.old)) }
-    ensures { Leaves (book_of book.now) (closing book.now query.now budget) area.old answer.old result area.new answer.new }
-{
-    let mut words = [0u32; 10922];
-    from_bytes(book, query, budget, area, answer, &mut words, rows)
-}
-
-// The step's tables stand here, where the compiler can give them the room that the check's table had before.
+// The step's tables stand here, where the compiler can give them the room that the check's table had before. A book of up to 9,216 bytes gets a quarter of
+// the words that any may need: clearing them takes time.
 fn from_good(book: &[u8], query: &[u8], budget: u32, area: &mut [u8], answer: &mut [u8]) -> Answer
     requires { Good book.now query.now (min (length area.old) (length answer.old)) }
     ensures { Leaves (book_of book.now) (closing book.now query.now budget) area.old answer.old result area.new answer.new }
 {
     let mut rows = [0u16; CELLS];
     if book.len() <= 9216 {
-        return from_short(book, query, budget, area, answer, &mut rows);
+        return with_words::<3072>(book, query, budget, area, answer, &mut rows);
     }
-    from_long(book, query, budget, area, answer, &mut rows)
+    with_words::<10922>(book, query, budget, area, answer, &mut rows)
 }
 
 // "Run a query by a book, with a budget and a goal area", and with an answer area.
@@ -125,9 +94,8 @@ pub fn run(book: &[u8], query: &[u8], budget: u32, area: &mut [u8], answer: &mut
     ensures area { area.new ≡ run_area book.now query.now budget area.old answer.old }
     ensures answer { answer.new ≡ run_answer_area book.now query.now budget area.old answer.old }
 {
-    let a = admit(book, query, shorter(area.len(), answer.len()));
-    if a.code == 0 {
-        return from_good(book, query, budget, area, answer);
+    match admit(book, query, shorter(area.len(), answer.len())) {
+        Ok(()) => from_good(book, query, budget, area, answer),
+        Err(refusal) => refused(refusal),
     }
-    refused(a)
 }

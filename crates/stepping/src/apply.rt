@@ -26,12 +26,7 @@ fn refused(a: Admitted) -> Stepped
     Stepped {
         code: a.code,
         place: a.place,
-        steps: 0,
-        span: 0,
-        bytes: 0,
-        clause: 0,
-        furthest: 0,
-        argument: 0,
+        ..Stepped::default()
     }
 }
 
@@ -40,13 +35,7 @@ fn no_step(code: u8) -> Stepped
 {
     Stepped {
         code,
-        place: 0,
-        steps: 0,
-        span: 0,
-        bytes: 0,
-        clause: 0,
-        furthest: 0,
-        argument: 0,
+        ..Stepped::default()
     }
 }
 
@@ -56,13 +45,10 @@ fn one_step(clause: usize, bytes: usize) -> Stepped
 {
     Stepped {
         code: 25,
-        place: 0,
         steps: 1,
-        span: 0,
         bytes: bytes as u32,
         clause: clause as u32,
-        furthest: 0,
-        argument: 0,
+        ..Stepped::default()
     }
 }
 
@@ -144,11 +130,10 @@ fn from_bytes(
     let clauses = open_book(book, words, shelf);
     let opened = open_query(query, goal);
     let used = 4 * clauses + 260;
-    let n = opened.words;
     from_goal(
         words,
         &shelf[..used],
-        &goal[..n],
+        &goal[..opened.words],
         Call {
             formulas: opened.formulas,
             clause: clause as usize,
@@ -157,45 +142,28 @@ fn from_bytes(
     )
 }
 
-// The same with words lent that are enough for the book, and the rest of its storage its own.
-fn with_words(book: &[u8], query: &[u8], clause: u32, area: &mut [u8], words: &mut [u32]) -> Stepped
+// The same with storage of its own, with room for N words of the book.
+fn with_words<const N: usize>(book: &[u8], query: &[u8], clause: u32, area: &mut [u8]) -> Stepped
     requires good { Good book.now query.now (length area.old) }
-    requires book_len_bound { length book.now ≤ 3 * length words.old + 2 }
+    requires book_len_bound { (length book.now ≤ 3 * N + 2) × (N ≤ 10922) }
     ensures { Gives (apply_by (book_of book.now) (goal_of query.now) clause) area.old result area.new }
 {
+    let mut words = [0u32; N];
     let mut shelf = [0u16; 2308];
     let mut goal = [0u32; 4096];
-    from_bytes(book, query, clause, area, words, &mut shelf, &mut goal)
+    from_bytes(book, query, clause, area, &mut words, &mut shelf, &mut goal)
 }
 
-// For a book of up to 9,216 bytes, with a quarter of the words that any may need: clearing them takes time.
-fn from_short(book: &[u8], query: &[u8], clause: u32, area: &mut [u8]) -> Stepped
-    requires good { Good book.now query.now (length area.old) }
-    requires book_len_bound { length book.now ≤ 9216 }
-    ensures { Gives (apply_by (book_of book.now) (goal_of query.now) clause) area.old result area.new }
-{
-    let mut words = [0u32; 3072];
-    with_words(book, query, clause, area, &mut words)
-}
-
-// For any book.
-fn from_long(book: &[u8], query: &[u8], clause: u32, area: &mut [u8]) -> Stepped
-    requires { Good book.now query.now (length area.old) }
-    ensures { Gives (apply_by (book_of book.now) (goal_of query.now) clause) area.old result area.new }
-{
-    let mut words = [0u32; 10922];
-    with_words(book, query, clause, area, &mut words)
-}
-
-// The same with storage of its own. The words are another function's, so that those for long books take no room beside those for short ones.
+// A book of up to 9,216 bytes gets a quarter of the words that any may need: clearing them takes time. Each number of words has a function of its own, so
+// that those for long books take no room beside those for short ones.
 fn from_good(book: &[u8], query: &[u8], clause: u32, area: &mut [u8]) -> Stepped
     requires { Good book.now query.now (length area.old) }
     ensures { Gives (apply_by (book_of book.now) (goal_of query.now) clause) area.old result area.new }
 {
     if book.len() <= 9216 {
-        return from_short(book, query, clause, area);
+        return with_words::<3072>(book, query, clause, area);
     }
-    from_long(book, query, clause, area)
+    with_words::<10922>(book, query, clause, area)
 }
 
 // "A second applies a clause by its number", which is any number of 32 bits.
@@ -203,9 +171,8 @@ pub fn apply(book: &[u8], query: &[u8], clause: u32, area: &mut [u8]) -> Stepped
     ensures answer { result ≡ apply_answer book.now query.now clause area.old }
     ensures area { area.new ≡ apply_area book.now query.now clause area.old }
 {
-    let a = admit(book, query, area.len());
-    if a.code == 0 {
-        return from_good(book, query, clause, area);
+    match admit(book, query, area.len()) {
+        Ok(()) => from_good(book, query, clause, area),
+        Err(refusal) => refused(refusal),
     }
-    refused(a)
 }

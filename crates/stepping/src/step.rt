@@ -15,12 +15,9 @@ pub fn not_stepped(code: u8, place: u32, furthest: u32, argument: u32) -> Steppe
     Stepped {
         code,
         place,
-        steps: 0,
-        span: 0,
-        bytes: 0,
-        clause: 0,
         furthest,
         argument,
+        ..Stepped::default()
     }
 }
 

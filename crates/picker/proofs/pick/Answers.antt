@@ -5,10 +5,10 @@ use Rattle.outcomes.proofs.Calls.{pick-refused, pick-taken}
 use Rattle.picker.proofs.pick.Goals as goal
 
 pub from_good-requires : goal.from_good-requires
-from_good-requires c = not-refused _ _ _ (rw c.admit-a.ensures at c.if-a-eq0.true)
+from_good-requires c = not-refused _ _ _ c.in-Ok.ensures
 
-pub returns-then-a-eq0 : goal.returns-then-a-eq0
-returns-then-a-eq0 c = c.from_good.ensures ∙ inv (pick-taken _ _ (rw c.admit-a.ensures at c.if-a-eq0.true))
+pub returns-in-Ok : goal.returns-in-Ok
+returns-in-Ok c = c.from_good.ensures ∙ inv (pick-taken _ _ c.in-Ok.ensures)
 
-pub returns : goal.returns
-returns c = c.refused.ensures ∙ ap pick_refused c.admit-a.ensures ∙ inv (pick-refused _ _ (rw c.admit-a.ensures at c.if-a-eq0.false))
+pub returns-in-Err : goal.returns-in-Err
+returns-in-Err c = c.refused.ensures ∙ ap pick_refused c.in-Err.ensures.0 ∙ inv (pick-refused _ _ c.in-Err.ensures.1)
