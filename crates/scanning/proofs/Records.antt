@@ -1,28 +1,21 @@
 -- What one record adds to the arities before it.
-use Rattle.std.specs.Prelude.{Some, None}
+use Rattle.std.specs.Prelude.{Some}
 use Prim.Native.Nat.{ℕ, suc, ◌+◌, ◌≤◌, ◌<◌}
-use mathlib.Core.Path.{◌≡◌, refl, sym as inv, ap, ap₂, ◌∙◌, subst}
+use mathlib.Core.Path.{◌≡◌, refl, sym as inv, ap, ◌∙◌, subst}
 use mathlib.Core.Bool.{Bool, true, false, not, true≢false, ◌||◌}
-use mathlib.Core.List.{List, [], ◌∷◌, ◌++◌, append-nil}
+use mathlib.Core.List.{List, ◌++◌}
 use native.Mathlib.Omega.{arith}
 use borrow.Author.Tests.{leb-true, not-true, not-false}
-use lib.ListN.{length, get_or, set, drop, length-drop}
+use lib.ListN.{length, get_or, set}
 use lib.Dec.{eqb}
 use Rattle.terms.specs.When.{◌⇒◌∣◌}
-use Rattle.format.specs.declared.State.{State}
-use Rattle.format.specs.declared.Form.TheVariants.{Book}
 use Rattle.format.specs.declared.Record.{Record}
 use Rattle.format.specs.declared.Record.TheVariants.{Variable, Constant, Compound, Formula, Clause, Goal, End}
-use Rattle.format.specs.Format.{record_kind, encode, book_records, encode_book, GoodBook}
-use Rattle.format.specs.Reading.{body_length, record_at, in_range, after, start}
-use Rattle.format.specs.Decode.{book_of}
-use Rattle.format.specs.Faulty.{Complete}
-use Rattle.format.specs.Arities.{Use, record_uses, uses_of, book_uses, Memory, nothing_met, meet, meets, keeps, recalled}
-use Rattle.format.specs.ArityLaws.{book-uses, recalled-set}
-use Rattle.format.proofs.Encoded.{encoded}
-use Rattle.format.proofs.Beginnings.{Reads, beginning-reads}
-use Rattle.format.proofs.GoodSizes.{clauses-formed}
-use Rattle.readouts.specs.Clash.{arities_from, arities}
+use Rattle.format.specs.Format.{record_kind}
+use Rattle.format.specs.Reading.{in_range}
+use Rattle.format.specs.Arities.{Use, record_uses, Memory, meet, meets, keeps}
+use Rattle.format.specs.ArityLaws.{recalled-set}
+use Rattle.readouts.specs.Clash.{arities_from}
 use Rattle.scanning.specs.Remembers.{Remembers}
 
 -- One record
