@@ -1,7 +1,7 @@
 // An answer is held to what a query is held to, the numbers of its variables apart (document 02, C-14): in a copy each of them becomes 0.
 #![tactic(auto)]
 
-ghost use Rattle.std.specs.Prelude.{◌≡◌, ◌+◌, ◌<◌, ◌≤◌, length, get_or, take, ltb};
+ghost use Rattle.std.specs.Prelude.{◌≡◌, ◌+◌, ◌<◌, ◌≤◌, length, get_or, ltb};
 ghost use Rattle.format.specs.Reading.{body_length};
 ghost use Rattle.printouts.specs.Answer.{clear_at, unnumbered, answer_verdict};
 
@@ -12,10 +12,7 @@ use records::record::{body_length, next_at};
 fn is_whole(bytes: &[u8], at: usize) -> bool
     ensures { result ≡ ltb (at + body_length (get_or bytes.now at 0)) (length bytes.now) }
 {
-    if at < bytes.len() {
-        return body_length(bytes[at]) < bytes.len() - at;
-    }
-    false
+    at < bytes.len() && body_length(bytes[at]) < bytes.len() - at
 }
 
 fn clear_at(copy: &mut [u8], at: usize)
@@ -39,17 +36,6 @@ fn clear(copy: &mut [u8])
     }
 }
 
-fn fill(copy: &mut [u8], answer: &[u8])
-    requires { length answer.now ≤ length copy.old }
-    ensures { take (length answer.now) copy.new ≡ answer.now }
-{
-    let mut i = 0;
-    while i < answer.len() {
-        copy[i] = answer[i];
-        i += 1;
-    }
-}
-
 fn check_cleared(book: &[u8], copy: &mut [u8]) -> Check
     ensures { result ≡ answer_verdict book.now copy.old }
 {
@@ -61,8 +47,8 @@ fn check_copy(book: &[u8], answer: &[u8], copy: &mut [u8]) -> Check
     requires { length answer.now ≤ length copy.old }
     ensures { result ≡ answer_verdict book.now answer.now }
 {
-    fill(copy, answer);
-    let part = &mut copy[0..answer.len()];
+    let part = &mut copy[..answer.len()];
+    part.copy_from_slice(answer);
     check_cleared(book, part)
 }
 

@@ -18,47 +18,24 @@ use Rattle.pieces.specs.declared.Found.{Found}
 use Rattle.pieces.specs.declared.Found.TheVariants as F
 use Rattle.pieces.specs.Found.{end_of}
 use Rattle.reader.proofs.Walks.{piece-end}
-use Rattle.texts.specs.Seek.{depth_after}
+use Rattle.texts.specs.declared.places.Sign.{Sign}
+use Rattle.texts.specs.declared.places.Sign.TheVariants.{Name, Opening, Closing, Comma, Other, Nothing}
+use Rattle.texts.specs.Seek.{sign_of, depth_after}
 use Rattle.questions.specs.Outcome.{begins_formula, formula_in, formula_at}
-use Rattle.clashing.specs.Seek.{sign_of, here, outside_after}
-
--- Tests
-
-pub here-none : (sign o d k : ℕ) → sign ≡ 4 → true ≡ here sign o d k
-here-none sign o d k e = rw (eq-eqb sign 4 e) refl
-
-pub here-other : (sign o d k : ℕ) → (sign ≡ 4 → ⊥) → (sign ≡ 1 → ⊥) → false ≡ here sign o d k
-here-other sign o d k n e = rw (ne_eqb sign 4 n, ne_eqb sign 1 e) refl
-
-pub here-deep : (sign o d k : ℕ) → (sign ≡ 4 → ⊥) → sign ≡ 1 → (d ≡ 0 → ⊥) → false ≡ here sign o d k
-here-deep sign o d k n e f = rw (ne_eqb sign 4 n, eq-eqb sign 1 e, ne_eqb d 0 f) refl
-
-pub here-name : (sign o d k : ℕ) → (sign ≡ 4 → ⊥) → sign ≡ 1 → d ≡ 0 → eqb o k ≡ here sign o d k
-here-name sign o d k n e f = rw (ne_eqb sign 4 n, eq-eqb sign 1 e, eq-eqb d 0 f) refl
-
-pub outside-other : (sign o d : ℕ) → (sign ≡ 5 → ⊥) → o ≡ outside_after sign o d
-outside-other sign o d e = rw (ne_eqb sign 5 e) refl
-
-pub outside-deep : (sign o d : ℕ) → sign ≡ 5 → (d ≡ 0 → ⊥) → o ≡ outside_after sign o d
-outside-deep sign o d e n = rw (eq-eqb sign 5 e, ne_eqb d 0 n) refl
-
-pub outside-comma : (sign o d : ℕ) → sign ≡ 5 → d ≡ 0 → o + 1 ≡ outside_after sign o d
-outside-comma sign o d e n = rw (eq-eqb sign 5 e, eq-eqb d 0 n) refl
-
-pub ruleset heres = (here-none, here-other, here-deep, here-name, outside-other, outside-deep, outside-comma)
+use Rattle.clashing.specs.Seek.{here, outside_after}
 
 -- One piece
 
-abbrev sign : Piece → ℕ
-sign (token (name w)) = 1
-sign (token (variable w)) = 0
-sign (token opening) = 2
-sign (token closing) = 3
-sign (token comma) = 5
-sign (token arrow) = 0
-sign (token stop) = 0
-sign (blank b) = 0
-sign (comment c) = 0
+abbrev sign : Piece → Sign
+sign (token (name w)) = Name
+sign (token (variable w)) = Other
+sign (token opening) = Opening
+sign (token closing) = Closing
+sign (token comma) = Comma
+sign (token arrow) = Other
+sign (token stop) = Other
+sign (blank b) = Other
+sign (comment c) = Other
 
 -- what is counted behind it
 abbrev behind : Tally → Piece → Tally
@@ -130,7 +107,7 @@ seek-here (comment c) ps k y at h = absurd (true≢false (inv h))
 -- what is found is a piece, or none
 data Sort (text : List ℕ) (at : ℕ) (found : Found) : Type 0 where
   piece : (p : Piece) (r : List ℕ) → front_at text at found ≡ front p r → sign_of found ≡ sign p → Sort text at found
-  none : ((more : List ℕ → List Piece) → piece_before (front_at text at found) more ≡ []) → sign_of found ≡ 4 → Sort text at found
+  none : ((more : List ℕ → List Piece) → piece_before (front_at text at found) more ≡ []) → sign_of found ≡ Nothing → Sort text at found
 
 sorted : (text : List ℕ) (at : ℕ) (found : Found) → Sort text at found
 sorted text at (F.Name end) = piece _ _ refl refl
@@ -167,21 +144,21 @@ some_left : (fuel : ℕ) (s : List ℕ) → 0 < fuel → pieces_of fuel s ≡ pi
 some_left zero s h = absurd (omega arith)
 some_left (suc n) s h = ap (λ (i : ℕ). piece_before (front_of s) (λ rest. pieces_of i rest)) (let z : n ≡ suc n - 1 = omega arith in z)
 
-deeper : (x d : ℕ) → depth_after x d ≤ d + 1
-deeper x d = low (eqb x 2) (eqb x 3) refl refl
-  where
-    low : (m n : Bool) → eqb x 2 ≡ m → eqb x 3 ≡ n → depth_after x d ≤ d + 1
-    low true n p q = rw p (omega arith)
-    low false true p q = rw (p, q) (omega arith)
-    low false false p q = rw (p, q) (omega arith)
+deeper : (x : Sign) (d : ℕ) → depth_after x d ≤ d + 1
+deeper Name d = omega arith
+deeper Opening d = omega arith
+deeper Closing d = omega arith
+deeper Comma d = omega arith
+deeper Other d = omega arith
+deeper Nothing d = omega arith
 
-further : (x o d : ℕ) → outside_after x o d ≤ o + 1
-further x o d = low (eqb x 5) (eqb d 0) refl refl
-  where
-    low : (m n : Bool) → eqb x 5 ≡ m → eqb d 0 ≡ n → outside_after x o d ≤ o + 1
-    low true true p q = rw (p, q) (omega arith)
-    low true false p q = rw (p, q) (omega arith)
-    low false n p q = rw p (omega arith)
+further : (x : Sign) (o d : ℕ) → outside_after x o d ≤ o + 1
+further Name o d = omega arith
+further Opening o d = omega arith
+further Closing o d = omega arith
+further Comma o d = cases (eqb d 0) (λ t. rw t (omega arith)) (λ t. rw t (omega arith))
+further Other o d = omega arith
+further Nothing o d = omega arith
 
 module _ (text : List ℕ) (k outside depth at : ℕ) (found : Found) (g : Seeking text k outside depth at) (l : at < length text) (shows : Shows text at found) where
   abbrev y : Tally
@@ -195,19 +172,19 @@ module _ (text : List ℕ) (k outside depth at : ℕ) (found : Found) (g : Seeki
   found-piece : (p : Piece) (r : List ℕ) → front_at text at found ≡ front p r → formula_in k y at (p ∷ pieces_of (g.fuel - 1) r) ≡ formula_at text k
   found-piece p r f = ap (λ (x : Front.Front). formula_in k y at (piece_before x (λ rest. pieces_of (g.fuel - 1) rest))) (inv f) ∙ goes
 
-  here-is : (s : ℕ) (p : Piece) → s ≡ sign p → here (sign p) y.outside (length y.brackets) k ≡ here s outside depth k
-  here-is s p e = ap (λ (x : ℕ). here x y.outside (length y.brackets) k) (inv e) ∙ ap₂ (λ (o d : ℕ). here s o d k) g.outside_are g.depth_is
+  here-is : (s : Sign) (p : Piece) → s ≡ sign p → here (sign p) y.outside (length y.brackets) k ≡ here s outside depth k
+  here-is s p e = ap (λ (x : Sign). here x y.outside (length y.brackets) k) (inv e) ∙ ap₂ (λ (o d : ℕ). here s o d k) g.outside_are g.depth_is
 
-  pub seeking-here : (s : ℕ) (t : Bool) → s ≡ sign_of found → t ≡ here s outside depth k → t ≡ true → at ≡ formula_at text k
+  pub seeking-here : (s : Sign) (t : Bool) → s ≡ sign_of found → t ≡ here s outside depth k → t ≡ true → at ≡ formula_at text k
   seeking-here s t e h z = by (sorted text at found)
     where
       by : Sort text at found → at ≡ formula_at text k
       by (piece p r f q) = inv (seek-here p (pieces_of (g.fuel - 1) r) k y at (here-is s p (e ∙ q) ∙ inv h ∙ z)) ∙ found-piece p r f
       by (none f q) = ap (formula_in k y at) (inv (f (λ rest. pieces_of (g.fuel - 1) rest))) ∙ goes
 
-  module _ (s : ℕ) (t : Bool) (e : s ≡ sign_of found) (h : t ≡ here s outside depth k) (no : t ≡ false) where
+  module _ (s : Sign) (t : Bool) (e : s ≡ sign_of found) (h : t ≡ here s outside depth k) (no : t ≡ false) where
     going : (outside' depth' end : ℕ) → outside' ≡ outside_after s outside depth → depth' ≡ depth_after s depth → end ≡ end_of at found → Sort text at found → Seeking text k outside' depth' end × (at < end)
-    going outside' depth' end a b c (none f q) = absurd (true≢false (inv (rw (eq-eqb s 4 (e ∙ q)) at h) ∙ no))
+    going outside' depth' end a b c (none f q) = absurd (true≢false (inv (h ∙ ap (λ (x : Sign). here x outside depth k) (e ∙ q)) ∙ no))
     going outside' depth' end a b c (piece p r f q) =
         let z = piece-end text at found p r shows.inside f in
         let on = seek-on p (pieces_of (g.fuel - 1) r) k y at (here-is s p (e ∙ q) ∙ inv h ∙ no) in (
@@ -215,8 +192,8 @@ module _ (text : List ℕ) (k outside depth at : ℕ) (found : Found) (g : Seeki
             fuel = g.fuel - 1;
             enough = omega (arith, g.enough, c, z.onward, z.inside);
             sofar = behind y p;
-            outside_are = outside-is y p ∙ ap₂ (λ (o d : ℕ). outside_after (sign p) o d) g.outside_are g.depth_is ∙ ap (λ (x : ℕ). outside_after x outside depth) (inv (e ∙ q)) ∙ inv a;
-            depth_is = brackets_after y p ∙ ap (depth_after (sign p)) g.depth_is ∙ ap (λ (x : ℕ). depth_after x depth) (inv (e ∙ q)) ∙ inv b;
+            outside_are = outside-is y p ∙ ap₂ (λ (o d : ℕ). outside_after (sign p) o d) g.outside_are g.depth_is ∙ ap (λ (x : Sign). outside_after x outside depth) (inv (e ∙ q)) ∙ inv a;
+            depth_is = brackets_after y p ∙ ap (depth_after (sign p)) g.depth_is ∙ ap (λ (x : Sign). depth_after x depth) (inv (e ∙ q)) ∙ inv b;
             is =
                 ap₂ (λ (i : ℕ) (x : List ℕ). formula_in k (behind y p) i (pieces_of (g.fuel - 1) x)) (c ∙ inv z.length_is) (ap (λ (i : ℕ). drop i text) c ∙ inv z.rest_is)
                 ∙ inv on ∙ found-piece p r f;

@@ -6,8 +6,7 @@ use mathlib.Core.List.{List}
 use native.Mathlib.Omega.{arith}
 use borrow.Author.Tests.{not-true, not-false, lt-ltb, le-ltb}
 use lib.ListN.{length, get_or}
-use Rattle.nametable.specs.Table.{word}
-use Rattle.namelist.specs.Bytes.{is_name, length_at, rank_at, past, entry_good, good_from}
+use Rattle.namelist.specs.Bytes.{is_name, name_at, rank_at, past, entry_good, good_from}
 use Rattle.namelist.specs.Tests.{good-means, good_is, good-not}
 use Rattle.terms.specs.Cases.{cases}
 
@@ -30,10 +29,10 @@ module _ (s : List ℕ) (at floor : ℕ) where
   pub fails-room : (left n : ℕ) → at < length s → left ≡ length s - at → n ≡ get_or s (at + 3) 0 → left < 4 + n → false ≡ entry_good s at floor
   fails-room left n h e q l = good-not s at floor (λ g. omega (arith, g.room))
 
-  pub answers : (left k r n : ℕ) (t : Bool) → at < length s → left ≡ length s - at → 4 ≤ left → k ≡ get_or s at 0 → 2 ≤ k → k ≤ 4 → r ≡ rank_at s at → floor ≤ r →
-      n ≡ get_or s (at + 3) 0 → n ≤ 32 → 4 + n ≤ left → t ≡ is_name (word s (at + 4) n) → t ≡ entry_good s at floor
-  answers left k r n t h e l f low high q a m p room w =
-      let v : t ≡ is_name (word s (at + 4) (length_at s at)) = w ∙ ap (λ (i : ℕ). is_name (word s (at + 4) i)) m in
+  pub answers : (left k r n : ℕ) (w : List ℕ) (t : Bool) → at < length s → left ≡ length s - at → 4 ≤ left → k ≡ get_or s at 0 → 2 ≤ k → k ≤ 4 → r ≡ rank_at s at → floor ≤ r →
+      n ≡ get_or s (at + 3) 0 → n ≤ 32 → 4 + n ≤ left → w ≡ name_at s at → t ≡ is_name w → t ≡ entry_good s at floor
+  answers left k r n w t h e l f low high q a m p room b z =
+      let v : t ≡ is_name (name_at s at) = z ∙ ap is_name b in
       cases t
       (λ y.
       y

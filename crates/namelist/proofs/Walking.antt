@@ -1,22 +1,23 @@
 -- Along the entries of a list.
+use Rattle.std.specs.Prelude.{Some, None}
+use Rattle.std.proofs.Common.{Bor}
 use Prim.Native.Nat.{ℕ, suc, ◌+◌, ◌≤◌, ◌<◌}
 use mathlib.Core.Path.{◌≡◌, refl, sym as inv, ap, ap₂, ◌∙◌, subst}
 use mathlib.Core.Bool.{Bool, true, false, not, ◌&&◌}
 use mathlib.Core.List.{List, [], ◌∷◌, head-eq_of_cons-eq, tail-eq_of_cons-eq}
 use native.Mathlib.Omega.{arith}
 use borrow.Author.Tests.{not-true, not-false, eq-eqb, ne_eqb, eqb-true, eqb-false}
-use lib.ListN.{length, get_or, take, drop, length-drop}
-use lib.Seq.{length-take-le}
+use lib.ListN.{length, get_or}
 use lib.Dec.{eqb}
+use lib.Pointwise.{pointwise}
 use Rattle.terms.specs.Cases.{cases}
 use Rattle.format.specs.Format.{Bytes}
 use Rattle.format.specs.Reading.{number_at}
 use Rattle.grammar.specs.Names.{Sort, Constant, Compound, Predicate, kind, is_sort, same_name}
-use Rattle.grammar.specs.NameLaws.{same_true}
-use Rattle.nametable.specs.Table.{word}
 use Rattle.namelist.specs.List.{Entry, naming}
-use Rattle.namelist.specs.Bytes.{length_at, name_at, past, good_from, entries_of, shares, shares_at, unshared, all_unshared, is_list}
-use Rattle.namelist.specs.ListLaws.{Stands, entered, stands-end, stands-more, NamesIt}
+use Rattle.namelist.specs.Bytes.{name_at, past, good_from, entries_of, shares, shares_at, unshared, all_unshared, is_list}
+use Rattle.namelist.specs.ListLaws.{Stands, entered, stands-end, stands-more}
+use Rattle.namelist.specs.NamingLaws.{GivesName, some, fit-some}
 use Rattle.namelist.specs.Meaning.{entry-is, good-read}
 
 -- Two entries
@@ -32,30 +33,15 @@ kind-sort Predicate Constant = refl
 kind-sort Predicate Compound = refl
 kind-sort Predicate Predicate = refl
 
+pointwise-is : (v w : List ℕ) → pointwise eqb v w ≡ same_name v w
+pointwise-is [] [] = refl
+pointwise-is [] (b ∷ w) = refl
+pointwise-is (a ∷ v) [] = refl
+pointwise-is (a ∷ v) (b ∷ w) = ap (λ (t : Bool). eqb a b && t) (pointwise-is v w)
+
 module _ (s : List ℕ) (a b : ℕ) where
-  pub other-kind : (x y : ℕ) → x ≡ get_or s a 0 → y ≡ get_or s b 0 → (x ≡ y → ⊥) → false ≡ shares_at s a b
-  other-kind x y p q d = inv (rw (ne_eqb (get_or s a 0) (get_or s b 0) (λ e. d (p ∙ e ∙ inv q))))
-
-  name-long : (i : ℕ) → past s i ≤ length s → length (name_at s i) ≡ length_at s i
-  name-long i h = length-take-le (length_at s i) (drop (i + 4) s) (omega (arith, length-drop (i + 4) s))
-
-  pub other_length : (m n : ℕ) → past s a ≤ length s → past s b ≤ length s → m ≡ get_or s (a + 3) 0 → n ≡ get_or s (b + 3) 0 → (m ≡ n → ⊥) → false ≡ shares_at s a b
-  other_length m n h g p q d =
-      cases (eqb (get_or s a 0) (get_or s b 0))
-      (λ t.
-      cases (same_name (name_at s a) (name_at s b))
-      (λ u. absurd (d (p ∙ inv (name-long a h) ∙ ap length (same_true (name_at s a) (name_at s b) u) ∙ name-long b g ∙ inv q)))
-      (λ u. inv (rw (t, u))))
-      (λ t. inv (rw t))
-
-  pub same_kind : (x y m n : ℕ) (t : Bool) → x ≡ get_or s a 0 → y ≡ get_or s b 0 → x ≡ y → m ≡ get_or s (a + 3) 0 → n ≡ get_or s (b + 3) 0 → m ≡ n →
-      t ≡ same_name (word s (a + 4) m) (word s (b + 4) m) → t ≡ shares_at s a b
-  same_kind x y m n t p q e f g l w =
-      w
-      ∙ ap₂ (λ (i j : ℕ). same_name (word s (a + 4) i) (word s (b + 4) j)) f (l ∙ g)
-      ∙ inv (rw (eq-eqb (get_or s a 0) (get_or s b 0) (inv p ∙ e ∙ q)))
-
-pub ruleset sharing = (other-kind, other_length, same_kind)
+  pub shared : (t : Bool) (v w : List ℕ) → get_or s a 0 ≡ get_or s b 0 → v ≡ name_at s a → w ≡ name_at s b → t ≡ pointwise eqb v w → t ≡ shares_at s a b
+  shared t v w h p q e = e ∙ pointwise-is v w ∙ ap₂ same_name p q ∙ inv (rw (eq-eqb (get_or s a 0) (get_or s b 0) h) refl)
 
 -- One list from a place on
 
@@ -248,15 +234,15 @@ module _ (s : List ℕ) where
         let g = entered s at x m h in
         ap₂ (λ (t : Bool) (i : ℕ). t && eqb n i) (kind-sort k x.sort ∙ ap₂ eqb (inv e) (inv g.kind_is)) (inv g.number_is)
 
-    pub finding_hit : (at start len : ℕ) (u : Bool) → Finding a n at → at < length s → u ≡ (eqb a (get_or s at 0) && eqb n (number_at s (at + 1))) → u ≡ true → start ≡ at + 4 → len ≡ get_or s (at + 3) 0 →
-        (l : List Entry) (k : Sort) → Stands s 0 l → a ≡ kind k → NamesIt s start len (naming l k n)
-    finding_hit at start len b g p q e u v l k h w =
+    pub finding_hit : (at : ℕ) (u : Bool) (r : Bor (List ℕ)) → Finding a n at → at < length s → u ≡ (eqb a (get_or s at 0) && eqb n (number_at s (at + 1))) → u ≡ true → r.now ≡ name_at s at →
+        (k : Sort) → a ≡ kind k → (l : List Entry) → Stands s 0 l → GivesName (Some r) (naming l k n)
+    finding_hit at u r g p q e v k w l h =
         let y = more s at g.inner.left g.inner.here p in
         let z = entered s at y.top y.tail y.stands in
         let t : (eqb a (get_or s at 0) && eqb n (number_at s (at + 1))) ≡ true = inv q ∙ e in
         let o : y.top.name ≡ naming l k n =
         inv (ap (λ (m : List Entry). naming m k n) y.is ∙ rw (hit at y.top y.tail y.stands k w ∙ t)) ∙ g.rest k w ∙ ap (λ (m : List Entry). naming m k n) (left_one at g.inner l h) in
-        record { inside = omega (arith, z.room, z.length_is); name_is = ap₂ (λ (c d : ℕ). take c (drop d s)) v u ∙ z.name_is ∙ o }
+        (v ∙ z.name_is ∙ o, ap some (inv o) ∙ fit-some y.top.name (y.stands.proper.0.fit))
 
     pub finding-step : (at next : ℕ) (u : Bool) → Finding a n at → at < length s → u ≡ (eqb a (get_or s at 0) && eqb n (number_at s (at + 1))) → u ≡ false → next ≡ past s at → Finding a n next
     finding-step at next u g p i f q =
@@ -267,15 +253,9 @@ module _ (s : List ℕ) where
           rest = λ k w. inv (ap (λ (m : List Entry). naming m k n) y.is ∙ rw (hit at y.top y.tail y.stands k w ∙ t)) ∙ g.rest k w;
         }
 
-    pub finding-end : (at start len : ℕ) → Finding a n at → length s ≤ at → start ≡ 0 → len ≡ 0 → (l : List Entry) (k : Sort) → Stands s 0 l → a ≡ kind k → NamesIt s start len (naming l k n)
-    finding-end at start len g p u v l k h w =
-        record {
-          inside = omega arith;
-          name_is =
-              ap (λ (c : ℕ). take c (drop start s)) v
-              ∙ inv (ap (λ (m : List Entry). naming m k n) (stands-end s at g.inner.left g.inner.here p))
-              ∙ g.rest k w ∙ ap (λ (m : List Entry). naming m k n) (left_one at g.inner l h);
-        }
+    pub finding-end : (at : ℕ) → Finding a n at → length s ≤ at → (k : Sort) → a ≡ kind k → (l : List Entry) → Stands s 0 l → GivesName None (naming l k n)
+    finding-end at g p k w l h =
+        inv (ap (λ (m : List Entry). naming m k n) (left_one at g.inner l h)) ∙ inv (g.rest k w) ∙ ap (λ (m : List Entry). naming m k n) (stands-end s at g.inner.left g.inner.here p)
 
 pub ruleset sweeping = (sweeping-start, sweeping-whole, sweeping-past, sweeping-begins, sweeping-step)
 

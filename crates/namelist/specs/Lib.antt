@@ -8,3 +8,4 @@ pub mod NamingLaws
 pub mod Table
 pub mod Growing
 pub mod SpeltLaws
+pub mod Sorts

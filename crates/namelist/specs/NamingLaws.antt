@@ -1,5 +1,6 @@
 -- Which symbols a list names, and that it names them by names of C-13's form, one to one in each sort.
-use Rattle.std.specs.Prelude.{ℕ, ◌≡◌, refl, Bool, true, false, ◌&&◌, List, [], ◌∷◌, eqb}
+use Rattle.std.specs.Prelude.{ℕ, ◌≡◌, refl, Bool, true, false, ◌&&◌, List, [], ◌∷◌, eqb, Option, Some, None, is_some}
+use Rattle.std.specs.Borrow.{Bor}
 use Rattle.std.proofs.Common.{sym as inv, ap, ap₂, ◌∙◌, subst, inl, inr, eqb-true, eq-eqb}
 use Rattle.terms.specs.Cases.{cases}
 use Rattle.terms.specs.When.{◌⇒◌∣◌}
@@ -30,6 +31,15 @@ abbrev pub some : List ℕ → Bool
 some [] = false
 some (b ∷ w) = true
 
+-- what is found of the name of a symbol: nothing where it has none, which no name is
+abbrev pub GivesName : Option (Bor (List ℕ)) → List ℕ → Type 0
+GivesName None w = w ≡ []
+GivesName (Some r) w = (r.now ≡ w) × (some w ≡ true)
+
+pub gives-some : (r : Option (Bor (List ℕ))) (w : List ℕ) → GivesName r w → is_some r ≡ some w
+gives-some None w h = ap some (inv h)
+gives-some (Some r) w h = inv h.1
+
 abbrev pub node_named : List Entry → Node → Bool
 node_named l (var v) = true
 node_named l (sym (constant c)) = some (naming l Constant c)
@@ -52,7 +62,7 @@ matches k n = rw (is-sort_self k) (eq-eqb n n refl)
 abbrev same_entry : (x : Entry) (k : Sort) (n : ℕ) → x.sort ≡ k → x.number ≡ n → entry k n x.name ≡ x
 same_entry x k n p q = ap₂ (λ (j : Sort) (m : ℕ). entry j m x.name) (inv p) (inv q)
 
-fit-some : (w : List ℕ) → Fit w → some w ≡ true
+pub fit-some : (w : List ℕ) → Fit w → some w ≡ true
 fit-some [] f = absurd f.spelt
 fit-some (b ∷ w) f = refl
 

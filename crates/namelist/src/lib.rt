@@ -2,37 +2,33 @@
 #![tactic(auto)]
 
 ghost use Rattle.std.specs.Prelude.{◌≡◌, List, ◌∷◌, ℕ, suc, ◌+◌, ◌<◌, ◌≤◌, ◌&&◌, eqb, length, get_or};
+ghost use Rattle.std.specs.List.{list_all};
 ghost use Rattle.format.specs.Reading.{number_at};
+ghost use Rattle.grammar.specs.Byte.{goes_on};
 ghost use Rattle.grammar.specs.Names as Names;
-ghost use Rattle.grammar.specs.Names.{Sort};
-ghost use Rattle.nametable.specs.Table.{word};
 ghost use Rattle.namelist.specs.List.{Entry, naming};
-ghost use Rattle.namelist.specs.Bytes.{is_name, rank, rank_at, past, entry_good, good_from, shares_at, unshared, all_unshared, is_list};
-ghost use Rattle.namelist.specs.ListLaws.{Stands, NamesIt};
+ghost use Rattle.namelist.specs.Bytes.{is_name, name_at, rank_at, past, entry_good, good_from, shares_at, unshared, all_unshared, is_list};
+ghost use Rattle.namelist.specs.ListLaws.{Stands};
+ghost use Rattle.namelist.specs.NamingLaws.{GivesName};
+ghost use Rattle.namelist.specs.Sorts.{sort_named};
 
-use nametable::{byte, same};
 use pieces::{goes_on, small};
 use records::record::number_at;
 
 // "a small ASCII letter, then letters, digits or underscores"
-fn is_name(s: &[u8], at: usize, len: usize) -> bool
-    requires { at + len ≤ length s.now }
-    ensures { result ≡ is_name (word s.now at len) }
+fn is_name(name: &[u8]) -> bool
+    ensures { result ≡ is_name name.now }
 {
-    if len == 0 {
-        return false;
+    match name {
+        [first, rest @ ..] => small(*first) && all_go_on(rest),
+        [] => false,
     }
-    if !small(s[at]) {
-        return false;
-    }
-    let mut i = 1;
-    while i < len {
-        if !goes_on(s[at + i]) {
-            return false;
-        }
-        i += 1;
-    }
-    true
+}
+
+fn all_go_on(rest: &[u8]) -> bool
+    ensures { result ≡ list_all goes_on rest.now }
+{
+    rest.iter().all(|b| goes_on(*b))
 }
 
 pub fn wide(x: u16) -> usize
@@ -41,26 +37,12 @@ pub fn wide(x: u16) -> usize
     x as usize
 }
 
-fn number(s: &[u8], at: usize) -> usize
-    requires { at + 1 < length s.now }
-    ensures { (result ≡ number_at s.now at) × (result < 65536) }
-{
-    wide(number_at(s, at))
-}
-
 // A symbol's rank among all, by kind and then number.
-fn rank(kind: usize, number: usize) -> usize
-    requires { (kind < 256) × (number < 65536) }
-    ensures { (result ≡ rank kind number) × (result < 16777216) }
-{
-    kind * 65536 + number
-}
-
 fn rank_at(s: &[u8], at: usize) -> usize
     requires { at + 4 ≤ length s.now }
     ensures { (result ≡ rank_at s.now at) × (result < 16777216) }
 {
-    rank(byte(s, at), number(s, at + 1))
+    usize::from(s[at]) * 65536 + usize::from(number_at(s, at + 1))
 }
 
 // Where the entry after the one at a place stands.
@@ -69,7 +51,15 @@ fn past(s: &[u8], at: usize) -> usize
     requires at_in_bounds_2 { past s.now at ≤ length s.now }
     ensures { result ≡ past s.now at }
 {
-    at + 4 + byte(s, at + 3)
+    at + 4 + usize::from(s[at + 3])
+}
+
+fn name_at(s: &[u8], at: usize) -> &[u8]
+    requires at_in_bounds { at + 4 ≤ length s.now }
+    requires at_in_bounds_2 { past s.now at ≤ length s.now }
+    ensures { result.now ≡ name_at s.now at }
+{
+    &s[at + 4..past(s, at)]
 }
 
 // Whether an entry is whole, of this rank or more, and has a name of 1 to 32 bytes.
@@ -81,7 +71,7 @@ fn entry_good(s: &[u8], at: usize, floor: usize) -> bool
     if left < 4 {
         return false;
     }
-    let kind = byte(s, at);
+    let kind = s[at];
     if kind < 2 {
         return false;
     }
@@ -91,14 +81,14 @@ fn entry_good(s: &[u8], at: usize, floor: usize) -> bool
     if rank_at(s, at) < floor {
         return false;
     }
-    let len = byte(s, at + 3);
+    let len = usize::from(s[at + 3]);
     if 32 < len {
         return false;
     }
     if left < 4 + len {
         return false;
     }
-    is_name(s, at + 4, len)
+    is_name(name_at(s, at))
 }
 
 fn entries_good(s: &[u8]) -> bool
@@ -122,14 +112,7 @@ fn shares(s: &[u8], a: usize, b: usize) -> bool
     requires b_in_bounds { (b + 4 ≤ length s.now) × (past s.now b ≤ length s.now) }
     ensures { result ≡ shares_at s.now a b }
 {
-    let len = byte(s, a + 3);
-    if byte(s, a) != byte(s, b) {
-        return false;
-    }
-    if len != byte(s, b + 3) {
-        return false;
-    }
-    same(s, a + 4, b + 4, len)
+    s[a] == s[b] && name_at(s, a) == name_at(s, b)
 }
 
 // Whether no later entry of its sort has the name of the one at a place.
@@ -171,38 +154,45 @@ pub fn is_list(s: &[u8]) -> bool
     all_unshared(s)
 }
 
-// Where a name stands, and its length.
+// What a symbol is of.
 #[derive(Clone, Copy)]
-pub struct Place {
-    pub start: usize,
-    pub len: usize,
+pub enum Sort {
+    Constant,
+    Compound,
+    Predicate,
+}
+
+// The kind of the records and of the entries of a sort.
+fn kind(sort: Sort) -> u8
+    ensures { result ≡ Names.kind (sort_named sort) }
+{
+    match sort {
+        Sort::Constant => 2,
+        Sort::Compound => 3,
+        Sort::Predicate => 4,
+    }
 }
 
 // Whether the entry at a place is that of a symbol.
-fn is_entry(s: &[u8], at: usize, kind: usize, wanted: usize) -> bool
+fn is_entry(s: &[u8], at: usize, kind: u8, wanted: u16) -> bool
     requires { at + 4 ≤ length s.now }
     ensures { result ≡ (eqb kind (get_or s.now at 0) && eqb wanted (number_at s.now (at + 1))) }
 {
-    if byte(s, at) != kind {
-        return false;
-    }
-    number(s, at + 1) == wanted
+    s[at] == kind && number_at(s, at + 1) == wanted
 }
 
-// The name of a symbol in a list; of length 0, if it has none.
-pub fn find(s: &[u8], kind: usize, wanted: usize) -> Place
+// The name of a symbol in a list.
+pub fn find(s: &[u8], sort: Sort, wanted: u16) -> Option<&[u8]>
     requires { (l : List Entry) × Stands s.now 0 l }
-    ensures { (l : List Entry) (k : Sort) → Stands s.now 0 l → kind ≡ Names.kind k → NamesIt s.now result.start result.len (naming l k wanted) }
+    ensures { (l : List Entry) → Stands s.now 0 l → GivesName result (naming l (sort_named sort) wanted) }
 {
+    let kind = kind(sort);
     let mut at = 0;
     while at < s.len() {
         if is_entry(s, at, kind, wanted) {
-            return Place {
-                start: at + 4,
-                len: byte(s, at + 3),
-            };
+            return Some(name_at(s, at));
         }
         at = past(s, at);
     }
-    Place { start: 0, len: 0 }
+    None
 }

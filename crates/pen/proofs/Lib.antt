@@ -1,4 +1,3 @@
 -- What the proofs of the functions share.
 pub mod Layings  -- bytes laid one behind the other
 pub mod Stacks  -- what is owed
-pub mod Signing  -- before a formula, and behind a clause

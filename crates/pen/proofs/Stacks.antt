@@ -1,14 +1,14 @@
 -- What is owed, on the stack.
 use Prim.Native.Nat.{ℕ, zero, suc, ◌+◌, ◌-◌, ◌≤◌, ◌<◌}
 use mathlib.Core.Path.{◌≡◌, refl, sym as inv, ap, ◌∙◌, subst}
-use mathlib.Core.Bool.{Bool, true, false}
+use mathlib.Core.Bool.{Bool, true, false, not, ◌&&◌}
 use mathlib.Core.List.{List, [], ◌∷◌, ◌++◌, append_assoc, append-nil}
 use native.Mathlib.Omega.{arith}
 use native.Mathlib.Decide.{dec_lt}
-use borrow.Author.Tests.{lt-ltb, le-ltb}
+use borrow.Author.Tests.{lt-ltb, le-ltb, not-true, not-false}
 use lib.ListN.{length, get_or, set, drop, length-set, length-drop, drop_of_length-le}
 use lib.Seq.{drop-cons}
-use lib.Dec.{eqb, eqb-suc-zero}
+use lib.Dec.{eqb, ltb, eqb-suc-zero}
 use Rattle.printouts.specs.Walk.{begun, closings, left, deeper}
 use Rattle.printouts.specs.Laying.{Lays, lays-none, lays-then}
 use Rattle.pen.specs.declared.Pen.{Pen}
@@ -66,11 +66,11 @@ module _ (stack : List ℕ) (top : ℕ) where
   full_is zero o = refl
   full_is (suc x) o = eqb-suc-zero x
 
-  pub full-here : top < length stack → eqb (get_or stack top 0) 0 ≡ full (drop top stack)
-  full-here h = full_is (get_or stack top 0) (drop (suc top) stack) ∙ ap full (inv (here h))
-
-  pub full-over : length stack ≤ top → false ≡ full (drop top stack)
-  full-over h = inv (ap full (drop_of_length-le stack h))
+  pub full-is : (ltb top (length stack) && eqb (get_or stack top 0) 0) ≡ full (drop top stack)
+  full-is = elim (dec_lt top (length stack)) [
+    | yes h ↦ rw (lt-ltb top (length stack) h) (full_is (get_or stack top 0) (drop (suc top) stack) ∙ ap full (inv (here h)))
+    | no h ↦ rw (le-ltb top (length stack) (omega arith)) (inv (ap full (drop_of_length-le stack {i = top} (omega arith))))
+  ]
 
   pub comma-here : (area area' : List ℕ) (at r : ℕ) → top < length stack → Lays area area' at r (44 ∷ []) → Lays area area' at r (comma (drop top stack))
   comma-here area area' at r h p = subst (Lays area area' at r) (inv (ap comma (here h))) p
@@ -78,7 +78,7 @@ module _ (stack : List ℕ) (top : ℕ) where
   pub comma-over : (area : List ℕ) (at : ℕ) → length stack ≤ top → Lays area area at at (comma (drop top stack))
   comma-over area at h = subst (Lays area area at at) (inv (ap comma (drop_of_length-le stack h))) (lays-none area at)
 
-pub ruleset stacking = (room-set, begin-some, begin-none, begin-over, deep-full, deep_more, deep_room, room-none, full-here, full-over, comma-here, comma-over)
+pub ruleset stacking = (room-set, begin-some, begin-none, begin-over, deep-full, deep_more, deep_room, room-none, full-is, comma-here, comma-over)
 
 pub record Closing (area₀ area stack : List ℕ) (at end top i : ℕ) : Type 0 where
   pub inside : i ≤ 4096
@@ -86,6 +86,11 @@ pub record Closing (area₀ area stack : List ℕ) (at end top i : ℕ) : Type 0
   pub laid : Lays area₀ area at end written
   pub rest : written ++ brackets (drop i stack) ≡ brackets (drop top stack)
   pub owed : left (drop i stack) ≡ left (drop top stack)
+
+open_means : (o : List ℕ) → full o ≡ false → (brackets o ≡ []) × (left o ≡ o)
+open_means [] f = (refl, refl)
+open_means (zero ∷ o) f = let z : ◌≡◌ {A = ℕ} 0 1 = cc in absurd (omega arith)
+open_means (suc n ∷ o) f = (refl, refl)
 
 module _ (area₀ stack : List ℕ) (at top : ℕ) where
   pub closing-start : Room stack top → Closing area₀ area₀ stack at at top top
@@ -107,21 +112,10 @@ module _ (area₀ stack : List ℕ) (at top : ℕ) where
       none zero o e = refl
       none (suc x) o e = let z : ◌≡◌ {A = ℕ} 0 1 = cc in absurd (omega arith)
 
-  open_means : (o : List ℕ) → full o ≡ false → (brackets o ≡ []) × (left o ≡ o)
-  open_means [] f = (refl, refl)
-  open_means (zero ∷ o) f = let z : ◌≡◌ {A = ℕ} 0 1 = cc in absurd (omega arith)
-  open_means (suc n ∷ o) f = (refl, refl)
-
-  pub closing-below : (i : ℕ) (t : Bool) → Room stack top → t ≡ full (drop i stack) → t ≡ true → i < 4096
-  closing-below i t r e f = omega (arith, (full-means i (inv e ∙ f)).below, r.size)
-
-  pub closing-less : (i : ℕ) (t : Bool) → Room stack top → t ≡ full (drop i stack) → t ≡ true → 4096 - (i + 1) < 4096 - i
-  closing-less i t r e f = omega (arith, closing-below i t r e f)
-
-  pub closing-step : (area area' : List ℕ) (end r i : ℕ) (t : Bool) → Room stack top → Closing area₀ area stack at end top i → t ≡ full (drop i stack) → t ≡ true → Lays area area' end r (41 ∷ []) →
+  pub closing-step : (area area' : List ℕ) (end r i : ℕ) (t : Bool) → Room stack top → Closing area₀ area stack at end top i → t ≡ full (drop i stack) → not t ≡ false → Lays area area' end r (41 ∷ []) →
       Closing area₀ area' stack at r top (i + 1)
   closing-step area area' end r i t m g e f p =
-      let w = full-means i (inv e ∙ f) in
+      let w = full-means i (inv e ∙ not-false t f) in
       let q : suc i ≡ i + 1 = omega arith in
       let o : drop i stack ≡ 0 ∷ drop (i + 1) stack = w.zero_is ∙ ap (λ (k : ℕ). 0 ∷ drop k stack) q in
       record {
@@ -135,23 +129,34 @@ module _ (area₀ stack : List ℕ) (at top : ℕ) where
   pub closing-length : (area : List ℕ) (end i : ℕ) → Closing area₀ area stack at end top i → length area ≡ length area₀
   closing-length area end i g = lays-length area₀ area at end g.written g.laid
 
-  pub closing_end : (area : List ℕ) (end i : ℕ) (t : Bool) (pen : Pen) → Closing area₀ area stack at end top i → t ≡ full (drop i stack) → t ≡ false → pen ≡ record { at = end; top = i; turn = 0 } →
-      Closed area₀ area stack at top pen
-  closing_end area end i t pen g e f p =
-      let o = open_means (drop i stack) (inv e ∙ f) in
-      subst (Closed area₀ area stack at top) (inv p)
+module _ (area₀ stack : List ℕ) (pen : Pen) (r : Room stack pen.top) where
+  shut : (area : List ℕ) (end i : ℕ) (pen' : Pen) → Closing area₀ area stack pen.at end pen.top i → full (drop i stack) ≡ false → pen' ≡ record { at = end; top = i; turn = pen.turn } → Closed area₀ area stack pen pen'
+  shut area end i pen' g f p =
+      let o = open_means (drop i stack) f in
+      subst (Closed area₀ area stack pen) (inv p)
       (record {
-        text = subst (Lays area₀ area at end) (inv (append-nil g.written) ∙ ap (λ (x : List ℕ). g.written ++ x) (inv o.0) ∙ g.rest) g.laid;
+        text = subst (Lays area₀ area pen.at end) (inv (append-nil g.written) ∙ ap (λ (x : List ℕ). g.written ++ x) (inv o.0) ∙ g.rest) g.laid;
         owed = inv o.1 ∙ g.owed;
+        turn = refl;
         inside = g.inside;
       })
 
-pub ruleset closing-rules = (closing-start, closing-less, closing-step, closing-length, closing_end)
+  -- at one that is open still, or at the stack's end
+
+  pub closing-open : (area : List ℕ) (end i : ℕ) (t : Bool) (pen' : Pen) → Closing area₀ area stack pen.at end pen.top i → t ≡ full (drop i stack) → not t ≡ true → pen' ≡ record { at = end; top = i; turn = pen.turn } → Closed area₀ area stack pen pen'
+  closing-open area end i t pen' g e f p = shut area end i pen' g (inv e ∙ not-true t f) p
+
+  pub closing-over : (area : List ℕ) (end i : ℕ) (pen' : Pen) → Closing area₀ area stack pen.at end pen.top i → length stack ≤ i → pen' ≡ record { at = end; top = length stack; turn = pen.turn } → Closed area₀ area stack pen pen'
+  closing-over area end i pen' g h p =
+      let q : length stack ≡ i = omega (arith, h, g.inside, r.size) in
+      shut area end i pen' g (ap full (drop_of_length-le stack {i = i} h)) (p ∙ ap (λ (k : ℕ). record { at = end; top = k; turn = pen.turn }) q)
+
+pub ruleset closing-rules = (closing-start, closing-step, closing-length, closing-open, closing-over)
 
 -- A term ends
 
 pub ended : (a b c stack stack' : List ℕ) (pen shut out : Pen) (end : ℕ) → drop pen.top stack' ≡ begun (drop pen.top stack) → Room stack' pen.top →
-    Closed a b stack' pen.at pen.top shut → Lays b c shut.at end (comma (drop shut.top stack')) → out ≡ record { at = end; top = shut.top; turn = pen.turn } → Ended a c stack stack' pen out
+    Closed a b stack' pen shut → Lays b c shut.at end (comma (drop shut.top stack')) → out ≡ record { at = end; top = shut.top; turn = shut.turn } → Ended a c stack stack' pen out
 ended a b c stack stack' pen shut out end e r p q f =
     subst (Ended a c stack stack' pen) (inv f)
     (record {
@@ -160,11 +165,11 @@ ended a b c stack stack' pen shut out end e r p q f =
           (ap (λ (x : List ℕ). brackets (drop pen.top stack') ++ comma x) p.owed ∙ inv (closings-are (drop pen.top stack')) ∙ ap closings e)
           (lays-then a b c pen.at shut.at end (brackets (drop pen.top stack')) (comma (drop shut.top stack')) p.text q);
       owed = p.owed ∙ ap left e;
-      turn = refl;
+      turn = p.turn;
       room = record { size = r.size; inside = p.inside };
     })
 
-pub closed-room : (a b stack : List ℕ) (at top : ℕ) (pen : Pen) → Room stack top → Closed a b stack at top pen → Room stack pen.top
-closed-room a b stack at top pen r p = record { size = r.size; inside = p.inside }
+pub closed-room : (a b stack : List ℕ) (pen pen' : Pen) → Room stack pen.top → Closed a b stack pen pen' → Room stack pen'.top
+closed-room a b stack pen pen' r p = record { size = r.size; inside = p.inside }
 
 pub ruleset ending-rules = (ended, closed-room)

@@ -33,10 +33,11 @@ pub record Room (stack : List ℕ) (top : ℕ) : Type 0 where
   pub inside : top ≤ 4096
 
 -- what is owed is the stack from there on
-pub record Closed (area area' stack : List ℕ) (at top : ℕ) (pen : Pen) : Type 0 where
-  pub text : Lays area area' at pen.at (brackets (drop top stack))
-  pub owed : drop pen.top stack ≡ left (drop top stack)
-  pub inside : pen.top ≤ 4096
+pub record Closed (area area' stack : List ℕ) (pen pen' : Pen) : Type 0 where
+  pub text : Lays area area' pen.at pen'.at (brackets (drop pen.top stack))
+  pub owed : drop pen'.top stack ≡ left (drop pen.top stack)
+  pub turn : pen'.turn ≡ pen.turn
+  pub inside : pen'.top ≤ 4096
 
 pub record Ended (area area' stack stack' : List ℕ) (pen pen' : Pen) : Type 0 where
   pub text : Lays area area' pen.at pen'.at (closings (begun (drop pen.top stack)))

@@ -14,7 +14,7 @@ pub fn begin(stack: &mut [u8], top: usize)
 {
     if top < stack.len() {
         if 0 < stack[top] {
-            stack[top] = stack[top] - 1;
+            stack[top] -= 1;
         }
     }
 }
@@ -35,26 +35,29 @@ pub fn deepen(stack: &mut [u8], top: usize, n: u8) -> usize
 fn is_full(stack: &[u8], top: usize) -> bool
     ensures { result ≡ full (drop top stack.now) }
 {
-    if top < stack.len() {
-        return stack[top] == 0;
-    }
-    false
+    top < stack.len() && stack[top] == 0
 }
 
-fn close(area: &mut [u8], at: usize, stack: &[u8], top: usize) -> Pen
-    requires { Room stack.now top }
-    ensures { Closed area.old area.new stack.now at top result }
+// The symbols close that have all their arguments, the innermost first.
+fn close(area: &mut [u8], stack: &[u8], pen: Pen) -> Pen
+    requires { Room stack.now pen.top }
+    ensures { Closed area.old area.new stack.now pen result }
 {
-    let mut end = at;
-    let mut i = top;
-    while is_full(stack, i) {
-        end = put(area, end, 41);
-        i += 1;
+    let mut end = pen.at;
+    for i in pen.top..stack.len() {
+        if !is_full(stack, i) {
+            return Pen {
+                at: end,
+                top: i,
+                ..pen
+            };
+        }
+        end = put(area, end, b')');
     }
     Pen {
         at: end,
-        top: i,
-        turn: 0,
+        top: stack.len(),
+        ..pen
     }
 }
 
@@ -63,7 +66,7 @@ fn put_comma(area: &mut [u8], at: usize, stack: &[u8], top: usize) -> usize
     ensures { Lays area.old area.new at result (comma (drop top stack.now)) }
 {
     if top < stack.len() {
-        return put(area, at, 44);
+        return put(area, at, b',');
     }
     at
 }
@@ -74,11 +77,7 @@ pub fn end_term(area: &mut [u8], stack: &mut [u8], pen: Pen) -> Pen
     ensures { Ended area.old area.new stack.old stack.new pen result }
 {
     begin(stack, pen.top);
-    let closed = close(area, pen.at, stack, pen.top);
+    let closed = close(area, stack, pen);
     let end = put_comma(area, closed.at, stack, closed.top);
-    Pen {
-        at: end,
-        top: closed.top,
-        turn: pen.turn,
-    }
+    Pen { at: end, ..closed }
 }

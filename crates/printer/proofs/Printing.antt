@@ -25,6 +25,7 @@ use Rattle.namelist.specs.Bytes.{is_list, entries_of}
 use Rattle.namelist.specs.Meaning.{list-means, list-stands}
 use Rattle.namelist.specs.NamingLaws.{some, all_named}
 use Rattle.grammar.specs.Names.{Constant, Compound, Predicate}
+use Rattle.printouts.specs.declared.Turn.TheVariants.{Start}
 use Rattle.printouts.specs.declared.Printout.{Printout}
 use Rattle.printouts.specs.Walk.{walked}
 use Rattle.printouts.proofs.WalkLaws.{walked-is, goal-walked}
@@ -58,9 +59,9 @@ module _ (image names area : List ℕ) (t : Bool) (c : Checked names t) where
           subst (PrintsImage image names area area) (inv e)
           (record { is = λ found x text s. is-no-name found x text names area s.good yes-list (inv (s.named (entries_of names)) ∙ inv (named (entries_of names) stands) ∙ f) })
 
-      module _ (all : u ≡ true) (n : ℕ) (long : (l : List Entry) → Stands names 0 l → n ≡ reach 0 (walked (naming l) 0 [] (items image))) where
+      module _ (all : u ≡ true) (n : ℕ) (long : (l : List Entry) → Stands names 0 l → n ≡ reach 0 (walked (naming l) Start [] (items image))) where
         abbrev w : List ℕ
-        w = walked (naming (entries_of names)) 0 [] (items image)
+        w = walked (naming (entries_of names)) Start [] (items image)
 
         yes-named : (x : Expr) → ((l : List Entry) → records_named l (items image) ≡ all_named l x) → all_named (entries_of names) x ≡ true
         yes-named x h = inv (h (entries_of names)) ∙ inv (named (entries_of names) stands) ∙ all
@@ -87,7 +88,7 @@ module _ (image names area : List ℕ) (t : Bool) (c : Checked names t) where
                     (long-is found x text names area (inr (subst (λ (v : List ℕ). length area < length v) (s.texts (naming (entries_of names))) (subst (λ (m : ℕ). length area < m) n-is h))));
               })
 
-          pub image-done : (area' : List ℕ) (m : ℕ) (r : Printout) → n ≤ length area → ((l : List Entry) → Stands names 0 l → Lays area area' 0 m (walked (naming l) 0 [] (items image))) → r ≡ done n →
+          pub image-done : (area' : List ℕ) (m : ℕ) (r : Printout) → n ≤ length area → ((l : List Entry) → Stands names 0 l → Lays area area' 0 m (walked (naming l) Start [] (items image))) → r ≡ done n →
               PrintsImage image names area area' r
           image-done area' m r h k e =
               subst (PrintsImage image names area area') (inv e)
@@ -131,7 +132,7 @@ module _ (book : List ℕ) (bytes : Bytes book) (found : Check) (is : found ≡ 
       record {
         good = code;
         named = λ l. ap (records_named l) items-are ∙ book-named l (book_of book);
-        texts = λ name. ap (walked name 0 []) items-are ∙ walked-is name (book_of book) (book_of-good book bytes code).0;
+        texts = λ name. ap (walked name Start []) items-are ∙ walked-is name (book_of book) (book_of-good book bytes code).0;
       }
 
   pub book-printed : (names area area' : List ℕ) (r : Printout) → PrintsImage book names area area' r → (r ≡ print_answer book names area) × (area' ≡ print_area book names area)
@@ -163,7 +164,7 @@ module _ (found : Check) (goal : List ℕ) (formulas : AreFormulas (goal_of goal
       record {
         good = z;
         named = λ l. ap (records_named l) goal-items ∙ goal-named l;
-        texts = λ name. ap (walked name 0 []) goal-items ∙ goal-walked name (goal_of goal) formulas (omega (arith, flat-size (goal_of goal), size));
+        texts = λ name. ap (walked name Start []) goal-items ∙ goal-walked name (goal_of goal) formulas (omega (arith, flat-size (goal_of goal), size));
       }
 
 module _ (goal names area : List ℕ) (found : Check) where

@@ -4,10 +4,8 @@ use mathlib.Core.Path.{◌≡◌, refl, sym as inv, ap, ap₂, ◌∙◌, subst}
 use mathlib.Core.Bool.{Bool, true, false, not}
 use mathlib.Core.List.{List, [], ◌∷◌, ◌++◌, append_assoc, append-nil}
 use native.Mathlib.Omega.{arith}
-use borrow.Author.Tests.{not-true, not-false, lt-ltb}
+use borrow.Author.Tests.{not-true, not-false}
 use lib.ListN.{length, get_or, drop, length-drop, drop_of_length-le}
-use lib.Seq.{length-take-le}
-use lib.Dec.{ltb}
 use Rattle.terms.specs.When.{◌⇒◌∣◌}
 use Rattle.format.specs.declared.Record.{Record}
 use Rattle.format.specs.declared.Record.TheVariants.{Variable, Constant, Compound, Formula, Clause, Goal, End}
@@ -18,9 +16,12 @@ use Rattle.grammar.specs.Names as Names
 use Rattle.grammar.specs.Names.{Sort, kind}
 use Rattle.printing.specs.Named.{Naming}
 use Rattle.namelist.specs.List.{Entry, naming}
-use Rattle.namelist.specs.ListLaws.{Stands, NamesIt}
+use Rattle.namelist.specs.ListLaws.{Stands}
 use Rattle.namelist.specs.NamingLaws.{some}
 use Rattle.namelist.proofs.Walking.{stands_one}
+use Rattle.printouts.specs.declared.Turn.{Turn}
+use Rattle.printouts.specs.declared.Turn.TheVariants as T
+use Rattle.printouts.specs.declared.Turn.TheVariants.{Start, Head}
 use Rattle.printouts.specs.Walk.{ending, walked, piece}
 use Rattle.printouts.specs.Laying.{Lays, lays-none, lays-then}
 use Rattle.pen.specs.declared.Pen.{Pen}
@@ -34,41 +35,35 @@ module _ (s a c stack stack' : List ℕ) (pen out : Pen) (item : Record) where
   abbrev Wrotes : Record → Type 0
   Wrotes r = (l : List Entry) → Stands s 0 l → Wrote (naming l) a c stack stack' pen out r
 
-  pub item-variable : (v w : ℕ) → item ≡ Variable v → w ≡ v → ((name : Naming) → Wrote name a c stack stack' pen out (Variable w)) → Wrotes item
-  item-variable v w e f g l h = subst (Wrote (naming l) a c stack stack' pen out) (ap Variable f ∙ inv e) (g (naming l))
+  pub item-variable : (v : ℕ) → item ≡ Variable v → ((name : Naming) → Wrote name a c stack stack' pen out (Variable v)) → Wrotes item
+  item-variable v e g l h = subst (Wrote (naming l) a c stack stack' pen out) (inv e) (g (naming l))
 
-  pub item-constant : (v w : ℕ) → item ≡ Constant v → w ≡ v → Wrotes (Constant w) → Wrotes item
-  item-constant v w e f g l h = subst (Wrote (naming l) a c stack stack' pen out) (ap Constant f ∙ inv e) (g l h)
-
-  pub item-compound : (v w n : ℕ) → item ≡ Compound v n → w ≡ v → Wrotes (Compound w n) → Wrotes item
-  item-compound v w n e f g l h = subst (Wrote (naming l) a c stack stack' pen out) (ap (λ (x : ℕ). Compound x n) f ∙ inv e) (g l h)
-
-  pub item-formula : (v w n : ℕ) → item ≡ Formula v n → w ≡ v → Wrotes (Formula w n) → Wrotes item
-  item-formula v w n e f g l h = subst (Wrote (naming l) a c stack stack' pen out) (ap (λ (x : ℕ). Formula x n) f ∙ inv e) (g l h)
+  pub item-symbol : (r : Record) → item ≡ r → Wrotes r → Wrotes item
+  item-symbol r e g l h = subst (Wrote (naming l) a c stack stack' pen out) (inv e) (g l h)
 
 module _ (s a c stack : List ℕ) (pen out : Pen) (item : Record) (r : Room stack pen.top) where
   none : drop 4096 stack ≡ []
   none = drop_of_length-le stack {i = 4096} (omega (arith, r.size))
 
-  pub item-clause : (n : ℕ) → item ≡ Clause n → Lays a c pen.at out.at (ending pen.turn) × (out.top ≡ 4096) × (out.turn ≡ 1) → (l : List Entry) → Stands s 0 l →
+  pub item-clause : (n : ℕ) → item ≡ Clause n → Lays a c pen.at out.at (ending pen.turn) × (out.top ≡ 4096) × (out.turn ≡ Head) → (l : List Entry) → Stands s 0 l →
       Wrote (naming l) a c stack stack pen out item
   item-clause n e g l h =
       subst (Wrote (naming l) a c stack stack pen out) (inv e)
       (record { text = g.0; owed = ap (λ (i : ℕ). drop i stack) g.1 ∙ none; turn = g.2; room = record { size = r.size; inside = omega (arith, g.1) } })
 
-  pub item-end : item ≡ End → Lays a c pen.at out.at (ending pen.turn) × (out.top ≡ 4096) × (out.turn ≡ 0) → (l : List Entry) → Stands s 0 l → Wrote (naming l) a c stack stack pen out item
+  pub item-end : item ≡ End → Lays a c pen.at out.at (ending pen.turn) × (out.top ≡ 4096) × (out.turn ≡ Start) → (l : List Entry) → Stands s 0 l → Wrote (naming l) a c stack stack pen out item
   item-end e g l h =
       subst (Wrote (naming l) a c stack stack pen out) (inv e)
       (record { text = g.0; owed = ap (λ (i : ℕ). drop i stack) g.1 ∙ none; turn = g.2; room = record { size = r.size; inside = omega (arith, g.1) } })
 
-pub item-goal : (s a stack : List ℕ) (pen out : Pen) (item : Record) (n : ℕ) → Room stack pen.top → item ≡ Goal n → out ≡ record { at = pen.at; top = 4096; turn = 4 } → (l : List Entry) → Stands s 0 l →
+pub item-goal : (s a stack : List ℕ) (pen out : Pen) (item : Record) (n : ℕ) → Room stack pen.top → item ≡ Goal n → out ≡ record { at = pen.at; top = 4096; turn = T.Goal } → (l : List Entry) → Stands s 0 l →
     Wrote (naming l) a a stack stack pen out item
 item-goal s a stack pen out item n r e o l h =
     subst (λ (x : Pen). Wrote (naming l) a a stack stack pen x item) (inv o)
-    (subst (Wrote (naming l) a a stack stack pen (record { at = pen.at; top = 4096; turn = 4 })) (inv e)
+    (subst (Wrote (naming l) a a stack stack pen (record { at = pen.at; top = 4096; turn = T.Goal })) (inv e)
     (record { text = lays-none a pen.at; owed = none s a a stack pen out item r; turn = refl; room = record { size = r.size; inside = omega arith } }))
 
-pub ruleset iteming = (item-variable, item-constant, item-compound, item-formula, item-clause, item-end, item-goal)
+pub ruleset iteming = (item-variable, item-symbol, item-clause, item-end, item-goal)
 
 -- The records from a place on
 
@@ -118,12 +113,12 @@ pub record Walking (area₀ area names image stack : List ℕ) (pen : Pen) (i : 
   pub standing : Standing image i left
   pub written : List ℕ
   pub laid : Lays area₀ area 0 pen.at written
-  pub rest : written ++ walked (naming entries) pen.turn (drop pen.top stack) left ≡ walked (naming entries) 0 [] (items image)
+  pub rest : written ++ walked (naming entries) pen.turn (drop pen.top stack) left ≡ walked (naming entries) Start [] (items image)
   pub room : Room stack pen.top
 
 module _ (area₀ names image : List ℕ) where
   pub walking_start : (stack : List ℕ) → ((l : List Entry) × Stands names 0 l) → image ≡ encode (items image) → length stack ≡ 4096 →
-      Walking area₀ area₀ names image stack (record { at = 0; top = 4096; turn = 0 }) 0
+      Walking area₀ area₀ names image stack (record { at = 0; top = 4096; turn = Start }) 0
   walking_start stack h e r =
       record {
         entries = h.0;
@@ -132,7 +127,7 @@ module _ (area₀ names image : List ℕ) where
         standing = record { here = e; inside = omega arith };
         written = [];
         laid = lays-none area₀ 0;
-        rest = ap (λ (o : List ℕ). walked (naming h.0) 0 o (items image)) (drop_of_length-le stack {i = 4096} (omega (arith, r)));
+        rest = ap (λ (o : List ℕ). walked (naming h.0) Start o (items image)) (drop_of_length-le stack {i = 4096} (omega (arith, r)));
         room = record { size = r; inside = omega arith };
       }
 
@@ -159,16 +154,16 @@ module _ (area₀ names image : List ℕ) where
         laid = lays-then area₀ area area' 0 pen.at out.at g.written p g.laid v.text;
         rest =
             append_assoc g.written p (walked name out.turn (drop out.top stack') y.behind)
-            ∙ ap (λ (x : List ℕ). g.written ++ (p ++ x)) (ap₂ (λ (t : ℕ) (d : List ℕ). walked name t d y.behind) v.turn v.owed)
+            ∙ ap (λ (x : List ℕ). g.written ++ (p ++ x)) (ap₂ (λ (t : Turn) (d : List ℕ). walked name t d y.behind) v.turn v.owed)
             ∙ ap (λ (x : List Record). g.written ++ walked name pen.turn o x) (ap (λ (x : Record). x ∷ y.behind) e ∙ inv y.is)
             ∙ g.rest;
         room = v.room;
       }
 
   pub walking-end : (area stack : List ℕ) (pen : Pen) (i : ℕ) → Walking area₀ area names image stack pen i → length image ≤ i → (l : List Entry) → Stands names 0 l →
-      Lays area₀ area 0 pen.at (walked (naming l) 0 [] (items image))
+      Lays area₀ area 0 pen.at (walked (naming l) Start [] (items image))
   walking-end area stack pen i g q l h =
-      subst (λ (m : List Entry). Lays area₀ area 0 pen.at (walked (naming m) 0 [] (items image))) (stands_one names 0 g.entries l g.begins h)
+      subst (λ (m : List Entry). Lays area₀ area 0 pen.at (walked (naming m) Start [] (items image))) (stands_one names 0 g.entries l g.begins h)
       (subst (Lays area₀ area 0 pen.at)
       (inv (append-nil g.written) ∙ ap (λ (x : List Record). g.written ++ walked (naming g.entries) pen.turn (drop pen.top stack) x) (inv (over image i g.left g.standing q)) ∙ g.rest)
       g.laid)
@@ -177,40 +172,27 @@ pub ruleset walking = (walking_start, walking-body, walking-length, walking-step
 
 -- Names
 
-some-long : (w : List ℕ) → ltb 0 (length w) ≡ some w
-some-long [] = refl
-some-long (b ∷ w) = lt-ltb 0 (length (b ∷ w)) (omega arith)
-
-pub named_some : (s : List ℕ) (a n start len : ℕ) → ((l : List Entry) (k : Sort) → Stands s 0 l → a ≡ kind k → NamesIt s start len (naming l k n)) →
-    (l : List Entry) (k : Sort) → Stands s 0 l → a ≡ kind k → ltb 0 len ≡ some (naming l k n)
-named_some s a n start len f l k h e =
-    let g = f l k h e in
-    ap (ltb 0) (inv (length-take-le len (drop start s) (omega (arith, length-drop start s, g.inside))) ∙ ap length g.name_is) ∙ some-long (naming l k n)
-
 module _ (s : List ℕ) (item : Record) (t : Bool) where
-  pub is-constant : (v w : ℕ) → item ≡ Constant v → w ≡ v → ((l : List Entry) (k : Sort) → Stands s 0 l → 2 ≡ kind k → t ≡ some (naming l k w)) → (l : List Entry) → Stands s 0 l → t ≡ record_named l item
-  is-constant v w e f g l h = g l Names.Constant h refl ∙ ap (λ (x : ℕ). some (naming l Names.Constant x)) f ∙ ap (record_named l) (inv e)
+  pub is-constant : (v : ℕ) → item ≡ Constant v → ((l : List Entry) → Stands s 0 l → t ≡ some (naming l Names.Constant v)) → (l : List Entry) → Stands s 0 l → t ≡ record_named l item
+  is-constant v e g l h = g l h ∙ ap (record_named l) (inv e)
 
-  pub is_compound : (v w n : ℕ) → item ≡ Compound v n → w ≡ v → ((l : List Entry) (k : Sort) → Stands s 0 l → 3 ≡ kind k → t ≡ some (naming l k w)) → (l : List Entry) → Stands s 0 l → t ≡ record_named l item
-  is_compound v w n e f g l h = g l Names.Compound h refl ∙ ap (λ (x : ℕ). some (naming l Names.Compound x)) f ∙ ap (record_named l) (inv e)
+  pub is_compound : (v n : ℕ) → item ≡ Compound v n → ((l : List Entry) → Stands s 0 l → t ≡ some (naming l Names.Compound v)) → (l : List Entry) → Stands s 0 l → t ≡ record_named l item
+  is_compound v n e g l h = g l h ∙ ap (record_named l) (inv e)
 
-  pub is-formula : (v w n : ℕ) → item ≡ Formula v n → w ≡ v → ((l : List Entry) (k : Sort) → Stands s 0 l → 4 ≡ kind k → t ≡ some (naming l k w)) → (l : List Entry) → Stands s 0 l → t ≡ record_named l item
-  is-formula v w n e f g l h = g l Names.Predicate h refl ∙ ap (λ (x : ℕ). some (naming l Names.Predicate x)) f ∙ ap (record_named l) (inv e)
+  pub is-formula : (v n : ℕ) → item ≡ Formula v n → ((l : List Entry) → Stands s 0 l → t ≡ some (naming l Names.Predicate v)) → (l : List Entry) → Stands s 0 l → t ≡ record_named l item
+  is-formula v n e g l h = g l h ∙ ap (record_named l) (inv e)
 
-module _ (s : List ℕ) (item : Record) (l : List Entry) where
-  pub is-variable : (v : ℕ) → item ≡ Variable v → true ≡ record_named l item
-  is-variable v e = ap (record_named l) (inv e)
+-- a record of no symbol
+pub is-other : (item : Record) → ((v : ℕ) → item ≡ Constant v → ⊥) → ((v n : ℕ) → item ≡ Compound v n → ⊥) → ((v n : ℕ) → item ≡ Formula v n → ⊥) → (l : List Entry) → true ≡ record_named l item
+is-other (Variable v) a b c l = refl
+is-other (Constant v) a b c l = absurd (a v refl)
+is-other (Compound v n) a b c l = absurd (b v n refl)
+is-other (Formula v n) a b c l = absurd (c v n refl)
+is-other (Clause n) a b c l = refl
+is-other (Goal n) a b c l = refl
+is-other End a b c l = refl
 
-  pub is-clause : (n : ℕ) → item ≡ Clause n → true ≡ record_named l item
-  is-clause n e = ap (record_named l) (inv e)
-
-  pub is-goal : (n : ℕ) → item ≡ Goal n → true ≡ record_named l item
-  is-goal n e = ap (record_named l) (inv e)
-
-  pub is-end : item ≡ End → true ≡ record_named l item
-  is-end e = ap (record_named l) (inv e)
-
-pub ruleset naming-items = (is-constant, is_compound, is-formula, is-variable, is-clause, is-goal, is-end)
+pub ruleset naming-items = (is-constant, is_compound, is-formula)
 
 pub record Sweeping (names image : List ℕ) (i : ℕ) : Type 0 where
   pub entries : List Entry

@@ -8,6 +8,7 @@ use Rattle.namelist.specs.List.{Entry, naming}
 use Rattle.namelist.specs.NamingLaws.{some}
 use Rattle.format.specs.declared.Record.{Record}
 use Rattle.printing.specs.Named.{Naming}
+use Rattle.printouts.specs.declared.Turn.TheVariants.{Start}
 use Rattle.printouts.specs.Walk.{owed_after, turn_after, piece, walked}
 use Rattle.printouts.specs.Laying.{Lays}
 use Rattle.printouts.specs.declared.Printout.{Printout}
@@ -53,7 +54,7 @@ pub record Checked (names : List ℕ) (t : Bool) : Type 0 where
 pub record Suited (image : List ℕ) (found : Check) (e : Expr) (text : Naming → List ℕ) : Type 0 where
   pub good : found.code ≡ 0
   pub named : (l : List Entry) → records_named l (items image) ≡ all_named l e
-  pub texts : (name : Naming) → walked name 0 [] (items image) ≡ text name
+  pub texts : (name : Naming) → walked name Start [] (items image) ≡ text name
 
 pub record PrintsImage (image names area area' : List ℕ) (r : Printout) : Type 0 where
   pub is : (found : Check) (e : Expr) (text : Naming → List ℕ) → Suited image found e text → Is found e text names area r area'

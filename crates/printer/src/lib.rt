@@ -5,6 +5,7 @@ ghost use Rattle.std.specs.Prelude.{◌≡◌, List, [], length};
 ghost use Rattle.format.specs.Format.{encode};
 ghost use Rattle.namelist.specs.List.{Entry, naming};
 ghost use Rattle.namelist.specs.ListLaws.{Stands};
+ghost use Rattle.printouts.specs.declared.Turn.TheVariants.{Start};
 ghost use Rattle.printouts.specs.Walk.{walked};
 ghost use Rattle.printouts.specs.Laying.{Lays, reach};
 ghost use Rattle.printouts.specs.Outcome.{refusal, print_answer, print_area, goal_answer, goal_area};
@@ -15,7 +16,7 @@ use crate::naming::{all_named, check_names};
 use crate::writing::put_record;
 use answers::check_answer;
 use pen::Pen;
-use printouts::Printout;
+use printouts::{Printout, Turn};
 use records::record::{next_at, record_at};
 use records::{check_book, check_query};
 
@@ -26,12 +27,12 @@ mod writing;
 fn walk(area: &mut [u8], names: &[u8], image: &[u8], stack: &mut [u8]) -> usize
     requires stands { (l : List Entry) × Stands names.now 0 l }
     requires image_value { (image.now ≡ encode (items image.now)) × (length stack.old ≡ 4096) }
-    ensures { (l : List Entry) → Stands names.now 0 l → Lays area.old area.new 0 result (walked (naming l) 0 [] (items image.now)) }
+    ensures { (l : List Entry) → Stands names.now 0 l → Lays area.old area.new 0 result (walked (naming l) Start [] (items image.now)) }
 {
     let mut pen = Pen {
         at: 0,
         top: 4096,
-        turn: 0,
+        turn: Turn::Start,
     };
     let mut i = 0;
     while i < image.len() {
@@ -45,7 +46,7 @@ fn walk(area: &mut [u8], names: &[u8], image: &[u8], stack: &mut [u8]) -> usize
 fn measure(names: &[u8], image: &[u8]) -> usize
     requires stands { (l : List Entry) × Stands names.now 0 l }
     requires image_value { image.now ≡ encode (items image.now) }
-    ensures { (l : List Entry) → Stands names.now 0 l → result ≡ reach 0 (walked (naming l) 0 [] (items image.now)) }
+    ensures { (l : List Entry) → Stands names.now 0 l → result ≡ reach 0 (walked (naming l) Start [] (items image.now)) }
 {
     let mut none = [0u8; 1];
     let mut stack = [0u8; 4096];
@@ -55,7 +56,7 @@ fn measure(names: &[u8], image: &[u8]) -> usize
 fn write(area: &mut [u8], names: &[u8], image: &[u8]) -> usize
     requires stands { (l : List Entry) × Stands names.now 0 l }
     requires image_value { image.now ≡ encode (items image.now) }
-    ensures { (l : List Entry) → Stands names.now 0 l → Lays area.old area.new 0 result (walked (naming l) 0 [] (items image.now)) }
+    ensures { (l : List Entry) → Stands names.now 0 l → Lays area.old area.new 0 result (walked (naming l) Start [] (items image.now)) }
 {
     let mut stack = [0u8; 4096];
     walk(area, names, image, &mut stack)

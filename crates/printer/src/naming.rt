@@ -1,23 +1,21 @@
 // Whether the names are a list, and give each symbol of an image a name.
 ghost use Rattle.std.specs.Prelude.{◌≡◌, List};
 ghost use Rattle.format.specs.Format.{encode};
-ghost use Rattle.grammar.specs.Names as Names;
-ghost use Rattle.grammar.specs.Names.{Sort};
 ghost use Rattle.namelist.specs.List.{Entry, naming};
 ghost use Rattle.namelist.specs.ListLaws.{Stands};
 ghost use Rattle.namelist.specs.NamingLaws.{some};
+ghost use Rattle.namelist.specs.Sorts.{sort_named};
 ghost use Rattle.printer.specs.Parts.{items, record_named, records_named, Checked};
 
 use format::Record;
-use namelist::{find, is_list, wide};
+use namelist::{Sort, find, is_list};
 use records::record::{next_at, record_at};
 
-fn has_name(names: &[u8], kind: usize, number: usize) -> bool
+fn has_name(names: &[u8], sort: Sort, number: u16) -> bool
     requires { (l : List Entry) × Stands names.now 0 l }
-    ensures { (l : List Entry) (k : Sort) → Stands names.now 0 l → kind ≡ Names.kind k → result ≡ some (naming l k number) }
+    ensures { (l : List Entry) → Stands names.now 0 l → result ≡ some (naming l (sort_named sort) number) }
 {
-    let name = find(names, kind, number);
-    0 < name.len
+    find(names, sort, number).is_some()
 }
 
 fn is_named(names: &[u8], item: Record) -> bool
@@ -25,13 +23,10 @@ fn is_named(names: &[u8], item: Record) -> bool
     ensures { (l : List Entry) → Stands names.now 0 l → result ≡ record_named l item }
 {
     match item {
-        Record::Variable(_) => true,
-        Record::Constant(c) => has_name(names, 2, wide(c)),
-        Record::Compound(f, _) => has_name(names, 3, wide(f)),
-        Record::Formula(p, _) => has_name(names, 4, wide(p)),
-        Record::Clause(_) => true,
-        Record::Goal(_) => true,
-        Record::End => true,
+        Record::Constant(c) => has_name(names, Sort::Constant, c),
+        Record::Compound(f, _) => has_name(names, Sort::Compound, f),
+        Record::Formula(p, _) => has_name(names, Sort::Predicate, p),
+        _ => true,
     }
 }
 

@@ -1,7 +1,6 @@
 -- The text record by record is the text by trees.
-use Rattle.std.specs.Prelude.{ℕ, zero, suc, ◌+◌, ◌≤◌, ◌≡◌, refl, List, [], ◌∷◌, ◌++◌, length, eqb}
+use Rattle.std.specs.Prelude.{ℕ, zero, suc, ◌+◌, ◌≤◌, ◌≡◌, refl, List, [], ◌∷◌, ◌++◌, length}
 use Rattle.std.proofs.Common.{sym as inv, ap, ◌∙◌, append_assoc, arith, lt-ltb, length-append}
-use Rattle.terms.specs.When.{◌⇒◌∣◌}
 use Rattle.terms.specs.Node.{constant, compound, predicate, var, sym, Expr}
 use Rattle.search.specs.Next as Next
 use Rattle.words.specs.Flat.{flat, flat-size}
@@ -16,7 +15,9 @@ use Rattle.grammar.specs.Names.{count}
 use Rattle.printing.specs.Spacing.{arguments_laid, formula_laid, sign_laid, body_laid, laid, more_laid}
 use Rattle.printing.specs.Named.{Naming, variable_name, first_terms, later_terms, named_terms, named_formula, named_formulas, named_rules, printed, printed_goal}
 use Rattle.printing.specs.NamedLaws.{terms-count}
-use Rattle.printouts.specs.Walk.{sign, ending, begun, closings, left, walked}
+use Rattle.printouts.specs.declared.Turn as Place
+use Rattle.printouts.specs.declared.Turn.TheVariants as T
+use Rattle.printouts.specs.Walk.{sign, ending, next_turn, begun, closings, left, walked}
 
 -- The text that is owed
 
@@ -91,7 +92,7 @@ no-terms {n = n} (sym (predicate _ _) ∷ e) x8 z = elim x8 [ ]
 
 -- Terms
 
-module _ (name : Naming) (turn : ℕ) (r : List Piece) (rs : List Record) (rest : walked name turn [] rs ≡ bytes r) where
+module _ (name : Naming) (turn : Place.Turn) (r : List Piece) (rs : List Record) (rest : walked name turn [] rs ≡ bytes r) where
   terms-walked : (o : List ℕ) (e : Expr) → {m : ℕ} → Format.Terms m e → total o ≡ m → Live o → length o + length e ≤ 4096 →
       walked name turn o (node_records e ++ rs) ≡ bytes (goes o (named_terms name e) r)
   terms-walked [] [] terms_none t l s = rest
@@ -123,18 +124,18 @@ module _ (name : Naming) (turn : ℕ) (r : List Piece) (rs : List Record) (rest 
   terms-walked (suc n ∷ o) (sym (predicate _ _) ∷ e) x18 t l s = elim x18 [ ]
 
   -- a formula, which the sign of its turn stands before
-  formula-walked : (e : Expr) → IsFormula e → length e ≤ 4096 → (before : ℕ) → (turn ≡ (eqb before 1 ⇒ 2 ∣ 3)) →
+  formula-walked : (e : Expr) → IsFormula e → length e ≤ 4096 → (before : Place.Turn) → (turn ≡ next_turn before) →
       walked name before [] (node_records e ++ rs) ≡ sign before ++ bytes (formula_laid (named_formula name e) r)
   formula-walked (sym (predicate p zero) ∷ []) (formula h l terms_none) s before t =
       append_assoc (sign before) (name Names.Predicate p ++ []) _
-      ∙ ap (λ (x : List ℕ). sign before ++ x) (append_assoc (name Names.Predicate p) [] _ ∙ ap (λ (x : List ℕ). name Names.Predicate p ++ x) (ap (λ (k : ℕ). walked name k [] rs) (inv t) ∙ rest))
+      ∙ ap (λ (x : List ℕ). sign before ++ x) (append_assoc (name Names.Predicate p) [] _ ∙ ap (λ (x : List ℕ). name Names.Predicate p ++ x) (ap (λ (k : Place.Turn). walked name k [] rs) (inv t) ∙ rest))
   formula-walked (sym (predicate p zero) ∷ (x ∷ e)) (formula h l q) s before t = absurd (omega (arith, ap length (no-terms (x ∷ e) q refl)))
   formula-walked (sym (predicate p (suc a)) ∷ e) (formula h l q) s before t =
       append_assoc (sign before) (name Names.Predicate p ++ (40 ∷ [])) _
       ∙ ap (λ (x : List ℕ). sign before ++ x)
       (append_assoc (name Names.Predicate p) (40 ∷ []) _
       ∙ ap (λ (x : List ℕ). name Names.Predicate p ++ x)
-      (ap (λ (k : ℕ). 40 ∷ walked name k (suc a ∷ []) (node_records e ++ rs)) (inv t)
+      (ap (λ (k : Place.Turn). 40 ∷ walked name k (suc a ∷ []) (node_records e ++ rs)) (inv t)
       ∙ ap (λ (x : List ℕ). 40 ∷ x) (terms-walked (suc a ∷ []) e q (omega arith) (omega arith) (omega arith))
       ∙ inv (ap bytes (whole (named_terms name e) (terms-count name e q)))))
     where
@@ -158,15 +159,15 @@ records-behind d e rs = ap (λ (l : List Record). l ++ rs) (records-append d e) 
 
 -- Bodies, goals and books
 
-abbrev turn_of : Turn → ℕ
-turn_of first = 2
-turn_of later = 3
+abbrev turn_of : Turn → Place.Turn
+turn_of first = T.First
+turn_of later = T.Later
 
 signed : (k : Turn) (r : List Piece) → bytes (sign_laid k r) ≡ sign (turn_of k) ++ bytes r
 signed first r = refl
 signed later r = refl
 
-next-turn : (k : Turn) → ◌≡◌ {A = ℕ} 3 (eqb (turn_of k) 1 ⇒ 2 ∣ 3)
+next-turn : (k : Turn) → T.Later ≡ next_turn (turn_of k)
 next-turn first = refl
 next-turn later = refl
 
@@ -176,39 +177,39 @@ module _ (name : Naming) where
   body-walked k [] r rs h s rest = rest k
   body-walked k (f ∷ g) r rs h s rest =
       ap (walked name (turn_of k) []) (records-behind f (flat g) rs)
-      ∙ formula-walked name 3 (body_laid later (named_formulas name g) r) (node_records (flat g) ++ rs)
+      ∙ formula-walked name T.Later (body_laid later (named_formulas name g) r) (node_records (flat g) ++ rs)
       (body-walked later g r rs h.1 (omega (arith, length-append f (flat g))) rest) f h.0 (omega (arith, length-append f (flat g))) (turn_of k) (next-turn k)
       ∙ inv (signed k (formula_laid (named_formula name f) (body_laid later (named_formulas name g) r)))
 
-  ended : (rs : List Record) (s : List ℕ) → ((turn : ℕ) → walked name turn [] rs ≡ ending turn ++ s) → (j : Turn) → walked name (turn_of j) [] rs ≡ 46 ∷ 10 ∷ s
-  ended rs s h first = h 2
-  ended rs s h later = h 3
+  ended : (rs : List Record) (s : List ℕ) → ((turn : Place.Turn) → walked name turn [] rs ≡ ending turn ++ s) → (j : Turn) → walked name (turn_of j) [] rs ≡ 46 ∷ 10 ∷ s
+  ended rs s h first = h T.First
+  ended rs s h later = h T.Later
 
-  book-walked : (b : Next.Book) → GoodClauses b → (turn : ℕ) → walked name turn [] (book_records b) ≡ ending turn ++ printed name b
+  book-walked : (b : Next.Book) → GoodClauses b → (turn : Place.Turn) → walked name turn [] (book_records b) ≡ ending turn ++ printed name b
   book-walked [] h turn = refl
   book-walked (c ∷ b) h turn =
       let g = c.head ∷ c.body in
       let n = length-append c.head (flat c.body) in
       let m = flat-size g in
       ap (λ (x : List ℕ). ending turn ++ x)
-      (ap (walked name 1 []) (records-behind c.head (flat c.body) (book_records b))
-      ∙ formula-walked name 2 (body_laid first (named_formulas name c.body) (laid (named_rules name b))) (node_records (flat c.body) ++ book_records b)
+      (ap (walked name T.Head []) (records-behind c.head (flat c.body) (book_records b))
+      ∙ formula-walked name T.First (body_laid first (named_formulas name c.body) (laid (named_rules name b))) (node_records (flat c.body) ++ book_records b)
       (body-walked first c.body (laid (named_rules name b)) (book_records b) h.0.formulas.1 (omega (arith, n, m, h.0.fitting.size)) (ended (book_records b) (printed name b) (book-walked b h.1)))
-      c.head h.0.formulas.0 (omega (arith, n, m, h.0.fitting.size)) 1 refl)
+      c.head h.0.formulas.0 (omega (arith, n, m, h.0.fitting.size)) T.Head refl)
 
   -- the text of a good book
-  pub walked-is : (b : Next.Book) → GoodBook b → walked name 0 [] (book_records b) ≡ printed name b
-  walked-is b good = book-walked b good.clauses 0
+  pub walked-is : (b : Next.Book) → GoodBook b → walked name T.Start [] (book_records b) ≡ printed name b
+  walked-is b good = book-walked b good.clauses T.Start
 
-  more-walked : (g : Next.Goal) → AreFormulas g → length (flat g) ≤ 4096 → walked name 3 [] (node_records (flat g)) ≡ bytes (more_laid (named_formulas name g))
+  more-walked : (g : Next.Goal) → AreFormulas g → length (flat g) ≤ 4096 → walked name T.Later [] (node_records (flat g)) ≡ bytes (more_laid (named_formulas name g))
   more-walked [] h s = refl
   more-walked (f ∷ g) h s =
-      ap (walked name 3 []) (records-append f (flat g))
-      ∙ formula-walked name 3 (more_laid (named_formulas name g)) (node_records (flat g)) (more-walked g h.1 (omega (arith, length-append f (flat g)))) f h.0 (omega (arith, length-append f (flat g))) 3 refl
+      ap (walked name T.Later []) (records-append f (flat g))
+      ∙ formula-walked name T.Later (more_laid (named_formulas name g)) (node_records (flat g)) (more-walked g h.1 (omega (arith, length-append f (flat g)))) f h.0 (omega (arith, length-append f (flat g))) T.Later refl
 
   -- and of a goal, whatever numbers its variables have
-  pub goal-walked : (g : Next.Goal) → AreFormulas g → length (flat g) ≤ 4096 → walked name 0 [] (goal_records g) ≡ printed_goal name g
+  pub goal-walked : (g : Next.Goal) → AreFormulas g → length (flat g) ≤ 4096 → walked name T.Start [] (goal_records g) ≡ printed_goal name g
   goal-walked [] h s = refl
   goal-walked (f ∷ g) h s =
-      ap (walked name 4 []) (records-append f (flat g))
-      ∙ formula-walked name 3 (more_laid (named_formulas name g)) (node_records (flat g)) (more-walked g h.1 (omega (arith, length-append f (flat g)))) f h.0 (omega (arith, length-append f (flat g))) 4 refl
+      ap (walked name T.Goal []) (records-append f (flat g))
+      ∙ formula-walked name T.Later (more_laid (named_formulas name g)) (node_records (flat g)) (more-walked g h.1 (omega (arith, length-append f (flat g)))) f h.0 (omega (arith, length-append f (flat g))) T.Goal refl

@@ -1,27 +1,45 @@
 -- The text of a book or a goal, record by record: what each record adds to it. That this is the text by trees: WalkLaws.
-use Rattle.std.specs.Prelude.{ℕ, zero, suc, List, [], ◌∷◌, ◌++◌, length, eqb, ltb}
+use Rattle.std.specs.Prelude.{ℕ, zero, suc, List, [], ◌∷◌, ◌++◌, length, ltb}
 use Rattle.terms.specs.When.{◌⇒◌∣◌}
 use Rattle.format.specs.declared.Record.{Record}
 use Rattle.format.specs.declared.Record.TheVariants.{Variable, Constant, Compound, Formula, Clause, Goal, End}
 use Rattle.grammar.specs.Names as Names
 use Rattle.printing.specs.Named.{Naming, variable_name}
+use Rattle.printouts.specs.declared.Turn.{Turn}
+use Rattle.printouts.specs.declared.Turn.TheVariants as T
 
--- Where the text stands: at the start of a book 0, before a head 1, before the body's first formula 2, before a later formula 3, before the first of a goal 4.
+-- What stands before a formula, and behind a clause, by where the text stands
 
-abbrev pub sign : ℕ → List ℕ
-sign turn = eqb turn 2 ⇒ 32 ∷ 58 ∷ 45 ∷ 32 ∷ [] ∣ eqb turn 3 ⇒ 44 ∷ 32 ∷ [] ∣ []
+abbrev pub sign : Turn → List ℕ
+sign T.Start = []
+sign T.Head = []
+sign T.First = 32 ∷ 58 ∷ 45 ∷ 32 ∷ []
+sign T.Later = 44 ∷ 32 ∷ []
+sign T.Goal = []
 
-abbrev pub ending : ℕ → List ℕ
-ending turn = eqb turn 0 ⇒ [] ∣ 46 ∷ 10 ∷ []
+abbrev pub ending : Turn → List ℕ
+ending T.Start = []
+ending T.Head = 46 ∷ 10 ∷ []
+ending T.First = 46 ∷ 10 ∷ []
+ending T.Later = 46 ∷ 10 ∷ []
+ending T.Goal = 46 ∷ 10 ∷ []
 
-abbrev pub turn_after : ℕ → Record → ℕ
+-- behind a formula
+abbrev pub next_turn : Turn → Turn
+next_turn T.Start = T.Later
+next_turn T.Head = T.First
+next_turn T.First = T.Later
+next_turn T.Later = T.Later
+next_turn T.Goal = T.Later
+
+abbrev pub turn_after : Turn → Record → Turn
 turn_after turn (Variable v) = turn
 turn_after turn (Constant c) = turn
 turn_after turn (Compound f n) = turn
-turn_after turn (Formula p n) = eqb turn 1 ⇒ 2 ∣ 3
-turn_after turn (Clause n) = 1
-turn_after turn (Goal n) = 4
-turn_after turn End = 0
+turn_after turn (Formula p n) = next_turn turn
+turn_after turn (Clause n) = T.Head
+turn_after turn (Goal n) = T.Goal
+turn_after turn End = T.Start
 
 -- What is owed: the arguments still to come of each symbol that is open, the innermost first.
 
@@ -64,7 +82,7 @@ owed_after o (Goal n) = []
 owed_after o End = []
 
 module _ (name : Naming) where
-  abbrev pub piece : ℕ → List ℕ → Record → List ℕ
+  abbrev pub piece : Turn → List ℕ → Record → List ℕ
   piece turn o (Variable v) = variable_name v ++ closings (begun o)
   piece turn o (Constant c) = name Names.Constant c ++ closings (begun o)
   piece turn o (Compound f n) = name Names.Compound f ++ (40 ∷ [])
@@ -73,6 +91,6 @@ module _ (name : Naming) where
   piece turn o (Goal n) = []
   piece turn o End = ending turn
 
-  abbrev pub walked : ℕ → List ℕ → List Record → List ℕ
+  abbrev pub walked : Turn → List ℕ → List Record → List ℕ
   walked turn o [] = []
   walked turn o (r ∷ rs) = piece turn o r ++ walked (turn_after turn r) (owed_after o r) rs

@@ -8,3 +8,13 @@ pub struct Printout {
     pub place: usize,
     pub bytes: usize,
 }
+
+// Where a text stands: at its start, before a head, before a body's first formula, before a later formula, before the first formula of a goal.
+#[derive(Clone, Copy)]
+pub enum Turn {
+    Start,
+    Head,
+    First,
+    Later,
+    Goal,
+}

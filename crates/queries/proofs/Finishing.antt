@@ -1,4 +1,5 @@
 -- From a query's text laid down to what is answered.
+use Rattle.std.specs.Prelude.{Option, Some, None}
 use Prim.Native.Nat.{ℕ, suc, ◌+◌, ◌-◌, ◌/◌, ◌%◌, ◌≤◌, ◌<◌}
 use mathlib.Core.Path.{◌≡◌, refl, sym as inv, ap, ap₂, ◌∙◌, subst}
 use mathlib.Core.Bool.{Bool, true, false, ◌&&◌}
@@ -11,6 +12,8 @@ use borrow.Rule.Slice.PartMut.{put_mid}
 use lib.Dec.{leb}
 use Rattle.words.specs.Flat.{flat}
 use Rattle.format.specs.Format.{Bytes, GoodGoal, encode, node_records, encode_goal}
+use Rattle.format.specs.Decode.{book_of}
+use Rattle.format.specs.Arities.{book_uses, nothing_met, recall}
 use Rattle.format.proofs.Longest.{good-short}
 use Rattle.grammar.specs.Syntax.{Formula}
 use Rattle.grammar.specs.Names.{Sort, list_of}
@@ -19,7 +22,7 @@ use Rattle.grammar.specs.GoodLaws.{query_good}
 use Rattle.asking.specs.Asking.{read, asking}
 use Rattle.asking.specs.Accepted.{Accepted}
 use Rattle.asking.proofs.AskingLaws.{asking_iff}
-use Rattle.readouts.proofs.ClashLaws.{formulas-uses}
+use Rattle.readouts.specs.Clash.{arities_from}
 use Rattle.storage.specs.Storage.{Written}
 use Rattle.storage.proofs.Filling.{written_as}
 use Rattle.questions.specs.declared.ReadQuery.{ReadQuery}
@@ -33,6 +36,7 @@ use Rattle.laying.specs.PageLaws.{formulas_bytes}
 use Rattle.laying.specs.NodeLaws.{image-laid}
 use Rattle.laying.specs.Words.{Knowing}
 use Rattle.clashing.specs.Meeting as Meeting
+use Rattle.clashing.proofs.Counting.{none-kept, some-kept}
 use Rattle.relisting.specs.Relisted.{Relists, Sizes, Listable, with_own}
 use Rattle.relisting.proofs.Whole.{two-written}
 use Rattle.queries.specs.Finished.{Read, Finished}
@@ -59,9 +63,6 @@ module _ (text names : List ℕ) (bytes : Bytes names) (g : Known) (know : Knowi
 
   nodes_are : formulas_bytes (given_from names) [] fs ≡ encode (node_records (flat (goal (given_from names) fs)))
   nodes_are = inv (ap (drop 3) (image-laid (given_from names) fs))
-
-  uses-few : (book : List ℕ) → length (uses text book (given_from names) fs) ≡ length fs
-  uses-few book = formulas-uses (names_with (given_from names) fs) [] fs
 
 -- The text laid down
 
@@ -90,17 +91,17 @@ module _ (text book names table out : List ℕ) (bytes : Bytes names) (g : Known
         short = omega (arith, length-take-le (d.len - 0) out (omega (arith, nodes-inside)), r.laid.len_low);
       }
 
-  module _ (k : ℕ) (m : Meeting.Kept book nodes k) where
-    count_is : k ≡ suited text book (given_from names) fs
-    count_is = m.is (goal (given_from names) fs) (goal-good text names bytes g r.knowing fs r.laid.accepted) nodes-here
+  module _ (m : Option ℕ) (kept_is : Meeting.Kept book nodes m) where
+    clash_is : m ≡ arities_from (recall nothing_met (book_uses (book_of book))) 0 (uses text book (given_from names) fs)
+    clash_is = kept_is.is (goal (given_from names) fs) (goal-good text names bytes g r.knowing fs r.laid.accepted) nodes-here
 
-    pub two_arities : (query list : List ℕ) (at : ℕ) (s : ReadQuery) → (k ≡ d.formulas → ⊥) → at ≡ formula_at text k → s ≡ refusal 17 at → Is text book names query list s query list
-    two_arities query list at s n p q =
-        answers (q ∙ ap (refusal 17) (p ∙ ap (formula_at text) count_is))
-        (is-two text book names query list r.good r.knowing.is fs ((asking_iff text fs).1 r.laid.accepted)
-        (λ z. n (count_is ∙ z ∙ uses-few text names bytes g r.knowing fs r.laid.accepted book ∙ inv r.laid.count)))
+    pub two_arities : (query list : List ℕ) (k at : ℕ) (s : ReadQuery) → m ≡ Some k → at ≡ formula_at text k → s ≡ refusal 17 at → Is text book names query list s query list
+    two_arities query list k at s n p q =
+        let c = some-kept (recall nothing_met (book_uses (book_of book))) 0 (uses text book (given_from names) fs) k (inv clash_is ∙ n) in
+        answers (q ∙ ap (refusal 17) (p ∙ ap (formula_at text) (let z : k ≡ suited text book (given_from names) fs = omega (arith, c.0) in z)))
+        (is-two text book names query list r.good r.knowing.is fs ((asking_iff text fs).1 r.laid.accepted) (λ z. omega (arith, c.1, z)))
 
-    pub one_arity : k ≡ d.formulas → Finished text book names table nodes g d
+    pub one_arity : m ≡ None → Finished text book names table nodes g d
     one_arity z =
         record {
           good = r.good;
@@ -110,7 +111,7 @@ module _ (text book names table out : List ℕ) (bytes : Bytes names) (g : Known
           kept = r.laid.kept;
           nodes_are = nodes-laid;
           count = r.laid.count;
-          all_suit = inv count_is ∙ z ∙ r.laid.count ∙ inv (uses-few text names bytes g r.knowing fs r.laid.accepted book);
+          all_suit = none-kept (recall nothing_met (book_uses (book_of book))) 0 (uses text book (given_from names) fs) (inv clash_is ∙ z);
         }
 
 -- The areas

@@ -96,8 +96,7 @@ fn judge(
     let g = c.known;
     let end = d.len;
     let nodes = &out[0..end];
-    let k = count_kept(book, nodes);
-    if k != d.formulas {
+    if let Some(k) = count_kept(book, nodes) {
         return refusal(17, formula_at(text, k) as u32);
     }
     give(text, names, query, list, table, nodes, g, d)

@@ -1,5 +1,5 @@
 -- What is computed of arities is what is told.
-use Rattle.std.specs.Prelude.{ℕ, zero, suc, ◌<◌, ◌≡◌, refl, List, [], ◌∷◌, ◌++◌, map, length}
+use Rattle.std.specs.Prelude.{ℕ, zero, suc, ◌<◌, ◌≡◌, refl, List, [], ◌∷◌, ◌++◌, map, length, Option, Some, None}
 use Rattle.std.proofs.Common.{sym as inv, ap, ap₂, ◌∙◌, subst, inl, append_assoc, append-nil, arith, length-append}
 use Rattle.std.proofs.Math.Decide.{dec_lt}
 use Rattle.terms.specs.Cases.{cases}
@@ -13,8 +13,6 @@ use Rattle.format.specs.Arities.{Use, node_uses, goal_uses, book_uses, Used, One
 use Rattle.format.specs.ArityLaws.{recall-append, used-left, used-right, arity_iff, one_more}
 use Rattle.format.proofs.Meaning.{one_none}
 use Rattle.printing.proofs.ArityLaws.{uses-append}
-use Rattle.readouts.specs.declared.Arities.{Arities}
-use Rattle.readouts.specs.declared.Arities.TheVariants.{One, Two}
 use Rattle.readouts.specs.Place.{formulas_in}
 use Rattle.readouts.specs.Clash.{Clashes, arities_from, arities, Means}
 
@@ -82,13 +80,13 @@ same_count {us} {j} {k} c d =
       | no h ↦ elim (dec_lt k j) [ yes g ↦ absurd (not-later d c g) | no g ↦ omega arith ]
     ]
 
-only : (us : List Use) (a b : Arities) → Means us a → Means us b → a ≡ b
-only us One One p q = refl
-only us One (Two k) p q = absurd (two-not-one us k q p)
-only us (Two j) One p q = absurd (two-not-one us j p q)
-only us (Two j) (Two k) p q = ap Two (same_count p q)
+only : (us : List Use) (a b : Option ℕ) → Means us a → Means us b → a ≡ b
+only us None None p q = refl
+only us None (Some k) p q = absurd (two-not-one us k q p)
+only us (Some j) None p q = absurd (two-not-one us j p q)
+only us (Some j) (Some k) p q = ap Some (same_count p q)
 
-pub arities-only : (us : List Use) (a : Arities) → Means us a → arities us ≡ a
+pub arities-only : (us : List Use) (a : Option ℕ) → Means us a → arities us ≡ a
 arities-only us a m = only us (arities us) a (arities_mean us) m
 
 -- Formulas and uses: as many uses as formulas

@@ -1,5 +1,5 @@
 -- What is computed is what the document says, and there is no other outcome.
-use Rattle.std.specs.Prelude.{ℕ, ◌≤◌, ◌<◌, ◌≡◌, ◌⊎◌, true, false, List, length, leb}
+use Rattle.std.specs.Prelude.{ℕ, ◌≤◌, ◌<◌, ◌≡◌, ◌⊎◌, true, false, List, length, leb, Option, Some, None}
 use Rattle.std.proofs.Math.Path.{refl}
 use Rattle.std.proofs.Common.{sym as inv, subst, inl, inr, arith, leb-true, leb-false, le-leb}
 use Rattle.std.proofs.lemmas.Bool.{lt-leb}
@@ -14,8 +14,6 @@ use Rattle.reading.specs.Reader as Reader
 use Rattle.reading.proofs.ReadingLaws.{reading-sound, reading-complete}
 use Rattle.reading.proofs.RefusalLaws.{refusal_iff}
 use Rattle.readouts.specs.declared.ReadText.{ReadText}
-use Rattle.readouts.specs.declared.Arities.{Arities}
-use Rattle.readouts.specs.declared.Arities.TheVariants.{One, Two}
 use Rattle.readouts.specs.Place.{FormulaAt, formula_place}
 use Rattle.readouts.proofs.PlaceLaws.{place_is}
 use Rattle.readouts.proofs.ThereLaws.{formula-there}
@@ -32,11 +30,11 @@ module _ (text books lists : List ℕ) where
   is-refused code place e = record { answer = rw e refl; book_is = rw e refl; names_are = rw e refl }
 
   module _ (cs : List Rule) (e : Reader.reading text ≡ Reader.read cs) where
-    pub is-two : (k : ℕ) → arities (book_uses (book cs)) ≡ Two k → Is text books lists (refusal 7 (formula_place text k)) books lists
+    pub is-two : (k : ℕ) → arities (book_uses (book cs)) ≡ Some k → Is text books lists (refusal 7 (formula_place text k)) books lists
     unfolding read_answer read_book names_read
     is-two k a = record { answer = rw (e, a) refl; book_is = rw (e, a) refl; names_are = rw (e, a) refl }
 
-    module _ (a : arities (book_uses (book cs)) ≡ One) where
+    module _ (a : arities (book_uses (book cs)) ≡ None) where
       pub is-no-room : room text books lists cs ≡ false → Is text books lists (refusal 43 0) books lists
       unfolding read_answer read_book names_read
       is-no-room r = record { answer = rw (e, a, r) refl; book_is = rw (e, a, r) refl; names_are = rw (e, a, r) refl }
@@ -79,11 +77,11 @@ module _ (text books lists : List ℕ) where
   own-reading : (cs : List Rule) → Reader.reading text ≡ Reader.read cs → Reading text (book cs) (name_list cs)
   own-reading cs e = let s = reading-sound text cs e in record { rules = cs; writes = s.writes; sized = s.sized; short = s.short; book_is = refl; list_is = refl }
 
-  told-read : (cs : List Rule) → Reader.reading text ≡ Reader.read cs → (a : Arities) → arities (book_uses (book cs)) ≡ a → Means (book_uses (book cs)) a →
+  told-read : (cs : List Rule) → Reader.reading text ≡ Reader.read cs → (a : Option ℕ) → arities (book_uses (book cs)) ≡ a → Means (book_uses (book cs)) a →
       Reads text books lists (read_answer text books lists) (read_book text books lists) (names_read text books lists)
-  told-read cs e (Two k) q m =
+  told-read cs e (Some k) q m =
       given (is-two cs e k q) (two_arities (own-reading cs e) m (formula-there text cs k (reading-sound text cs e).writes (omega (arith, clash-low m, book-uses-count cs))))
-  told-read cs e One q m =
+  told-read cs e None q m =
       cases (room text books lists cs) (λ r. let f = room-means cs r in given (is_read cs e q r) (reads (own-reading cs e) m f.0 f.1))
       (λ r. given (is-no-room cs e q r) (no_room (own-reading cs e) m (full-means cs r)))
 
@@ -100,13 +98,13 @@ module _ (text books lists : List ℕ) where
     read_as : Reader.reading text ≡ Reader.read r.rules
     read_as = reading-complete text r.rules (record { writes = r.writes; sized = r.sized; short = r.short })
 
-    one_arity : OneArity (book_uses c) → arities (book_uses (book r.rules)) ≡ One
-    one_arity o = arities-only (book_uses (book r.rules)) One (subst (λ (x : Next.Book). OneArity (book_uses x)) r.book_is o)
+    one_arity : OneArity (book_uses c) → arities (book_uses (book r.rules)) ≡ None
+    one_arity o = arities-only (book_uses (book r.rules)) None (subst (λ (x : Next.Book). OneArity (book_uses x)) r.book_is o)
 
     once_two : (k at : ℕ) → Clashes (book_uses c) k → FormulaAt text k at → Is text books lists (refusal 7 at) books lists
     once_two k at d f =
         subst (λ (i : ℕ). Is text books lists (refusal 7 i) books lists) (inv (place_is f))
-        (is-two r.rules read_as k (arities-only (book_uses (book r.rules)) (Two k) (subst (λ (x : Next.Book). Clashes (book_uses x) k) r.book_is d)))
+        (is-two r.rules read_as k (arities-only (book_uses (book r.rules)) (Some k) (subst (λ (x : Next.Book). Clashes (book_uses x) k) r.book_is d)))
 
     once_full : OneArity (book_uses c) → (length books < length (encode_book c)) ⊎ (length lists < length list) → Is text books lists (refusal 43 0) books lists
     once_full o h =

@@ -1,10 +1,8 @@
 -- One predicate, two arities (document 02, C-18): "the first formula in reading order whose predicate number had another arity before".
-use Rattle.std.specs.Prelude.{ℕ, suc, ◌≡◌, List, [], ◌∷◌, ◌++◌, length}
+use Rattle.std.specs.Prelude.{ℕ, suc, ◌≡◌, List, [], ◌∷◌, ◌++◌, length, Option, Some, None}
 use Rattle.terms.specs.When.{◌⇒◌∣◌}
 use Rattle.format.specs.declared.Record.TheVariants.{Formula}
 use Rattle.format.specs.Arities.{Use, Used, OneArity, Memory, nothing_met, meet, keeps}
-use Rattle.readouts.specs.declared.Arities.{Arities}
-use Rattle.readouts.specs.declared.Arities.TheVariants.{One, Two}
 
 -- so many uses keep one arity, and the next one does not keep it with them
 pub record Clashes (us : List Use) (k : ℕ) : Type 0 where
@@ -18,15 +16,15 @@ pub record Clashes (us : List Use) (k : ℕ) : Type 0 where
   pub met : Used next.number other before
   pub differs : other ≡ next.arity → ⊥
 
--- The same, computed: k uses behind what is remembered
+-- The same, computed: k uses behind what is remembered. Each predicate number keeps one arity; or so many formulas stand before the first that uses one with another.
 
-abbrev pub arities_from : Memory → ℕ → List Use → Arities
-arities_from m k [] = One
-arities_from m k (u ∷ us) = keeps m (Formula u.number u.arity) ⇒ arities_from (meet m u.number u.arity) (suc k) us ∣ Two k
+abbrev pub arities_from : Memory → ℕ → List Use → Option ℕ
+arities_from m k [] = None
+arities_from m k (u ∷ us) = keeps m (Formula u.number u.arity) ⇒ arities_from (meet m u.number u.arity) (suc k) us ∣ Some k
 
-abbrev pub arities : List Use → Arities
+abbrev pub arities : List Use → Option ℕ
 arities us = arities_from nothing_met 0 us
 
-abbrev pub Means : List Use → Arities → Type 0
-Means us One = OneArity us
-Means us (Two k) = Clashes us k
+abbrev pub Means : List Use → Option ℕ → Type 0
+Means us None = OneArity us
+Means us (Some k) = Clashes us k

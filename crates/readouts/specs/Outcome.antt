@@ -1,5 +1,5 @@
 -- What reading a text answers, and what the two lent areas hold afterwards (document 02, C-13 and C-18).
-use Rattle.std.specs.Prelude.{ℕ, ◌≤◌, ◌<◌, Bool, ◌&&◌, ◌⊎◌, List, ◌++◌, length, drop, eqb, leb}
+use Rattle.std.specs.Prelude.{ℕ, ◌≤◌, ◌<◌, Bool, ◌&&◌, ◌⊎◌, List, ◌++◌, length, drop, eqb, leb, Option, Some, None}
 use Rattle.terms.specs.When.{◌⇒◌∣◌}
 use Rattle.search.specs.Next as Next
 use Rattle.format.specs.Format.{encode_book}
@@ -10,8 +10,6 @@ use Rattle.grammar.specs.Reading.{Reading}
 use Rattle.reading.specs.Reader as Reader
 use Rattle.reading.proofs.Refusal.{Refusal}
 use Rattle.readouts.specs.declared.ReadText.{ReadText}
-use Rattle.readouts.specs.declared.Arities.{Arities}
-use Rattle.readouts.specs.declared.Arities.TheVariants.{One, Two}
 use Rattle.readouts.specs.Place.{FormulaAt, formula_place}
 use Rattle.readouts.specs.Clash.{Clashes, arities}
 
@@ -42,9 +40,9 @@ module _ (text books lists : List ℕ) where
   abbrev pub room : List Rule → Bool
   room cs = leb (length (encode_book (book cs))) (length books) && leb (length (name_list cs)) (length lists)
 
-  abbrev pub judged : List Rule → Arities → ReadText
-  judged cs (Two k) = refusal 7 (formula_place text k)
-  judged cs One = room cs ⇒ done (length (encode_book (book cs))) (length (name_list cs)) ∣ refusal 43 0
+  abbrev pub judged : List Rule → Option ℕ → ReadText
+  judged cs (Some k) = refusal 7 (formula_place text k)
+  judged cs None = room cs ⇒ done (length (encode_book (book cs))) (length (name_list cs)) ∣ refusal 43 0
 
   abbrev pub answered : Reader.Outcome → ReadText
   answered (Reader.refused code place) = refusal code place

@@ -9,10 +9,3 @@ pub struct ReadText {
     pub book: u32,
     pub names: u32,
 }
-
-// Each predicate number keeps one arity; or how many formulas stand before the first that uses one with another (document 02, C-18).
-#[derive(Clone, Copy)]
-pub enum Arities {
-    One,
-    Two(usize),
-}

@@ -5,30 +5,21 @@
 ghost use Rattle.std.specs.Prelude.{◌≡◌, true, ◌||◌, ◌+◌, ◌<◌, ◌≤◌, length, eqb};
 ghost use Rattle.terms.specs.When.{◌⇒◌∣◌};
 ghost use Rattle.format.specs.declared.Record.TheVariants.{Formula};
-ghost use Rattle.format.specs.Format.{GoodBook, encode_book};
+ghost use Rattle.format.specs.Format.{GoodBook, encode_book, record_kind};
 ghost use Rattle.format.specs.Reading.{in_range};
 ghost use Rattle.format.specs.Decode.{book_of};
-ghost use Rattle.format.specs.Arities.{book_uses, nothing_met, recalled};
+ghost use Rattle.format.specs.Arities.{book_uses};
 ghost use Rattle.readouts.specs.Clash.{arities};
 ghost use Rattle.scanning.specs.Remembers.{Remembers};
+ghost use Rattle.scanning.specs.Meeting.{MeetsAll, Met};
 
 use format::Record;
-use readouts::Arities;
 use records::record::{next_at, record_at};
-
-fn wide(x: u16) -> usize
-    ensures { (result ≡ x) × (result < 65536) }
-{
-    x as usize
-}
 
 fn same(met: u8, arity: u8) -> bool
     ensures { result ≡ (eqb met 0 || eqb met (arity + 1)) }
 {
-    if met == 0 {
-        return true;
-    }
-    met - 1 == arity
+    met == 0 || met - 1 == arity
 }
 
 fn remember_use(table: &mut [u8], p: usize, n: u8) -> bool
@@ -43,55 +34,50 @@ fn remember_use(table: &mut [u8], p: usize, n: u8) -> bool
 }
 
 // Whether a record keeps to what is remembered, which it is added to.
-pub fn remember(table: &mut [u8], item: Record) -> bool
+fn remember(table: &mut [u8], item: Record) -> bool
     requires { (length table.old ≡ 65536) × (in_range item ≡ true) }
     ensures { Remembers table.old table.new item result }
 {
     match item {
-        Record::Variable(_) => true,
-        Record::Constant(_) => true,
-        Record::Compound(_, _) => true,
-        Record::Formula(p, n) => remember_use(table, wide(p), n),
-        Record::Clause(_) => true,
-        Record::Goal(_) => true,
-        Record::End => true,
+        Record::Formula(p, n) => remember_use(table, usize::from(p), n),
+        _ => true,
     }
 }
 
-pub fn counted(kind: u8, k: usize) -> usize
+// How many formulas were read, with this record.
+fn counted(item: Record, k: usize) -> usize
     requires { k < 65536 }
-    ensures { result ≡ (eqb kind 4 ⇒ k + 1 ∣ k) }
+    ensures { result ≡ (eqb (record_kind item) 4 ⇒ k + 1 ∣ k) }
 {
-    if kind == 4 {
-        return k + 1;
+    match item {
+        Record::Formula(_, _) => k + 1,
+        _ => k,
     }
-    k
 }
 
-// With a table lent that remembers nothing.
-fn scan(image: &[u8], table: &mut [u8]) -> Arities
-    requires good_book { GoodBook (book_of image.now) × (encode_book (book_of image.now) ≡ image.now) }
-    requires table_len { (length table.old ≡ 65536) × (recalled table.old ≡ nothing_met) }
-    ensures { result ≡ arities (book_uses (book_of image.now)) }
+// How many formulas of an image stand before the first that does not keep to what the table remembers. Those before it are added to the table.
+pub fn find_clash(image: &[u8], table: &mut [u8]) -> Option<usize>
+    requires { MeetsAll image.now × (length table.old ≡ 65536) }
+    ensures { Met image.now table.old table.new result }
 {
     let mut k = 0;
     let mut i = 0;
     while i < image.len() {
-        let kind = image[i];
-        let item = record_at(image, i, kind);
+        let item = record_at(image, i, image[i]);
         if !remember(table, item) {
-            return Arities::Two(k);
+            return Some(k);
         }
-        k = counted(kind, k);
+        k = counted(item, k);
         i = next_at(image, i);
     }
-    Arities::One
+    None
 }
 
-pub fn find_arities(image: &[u8]) -> Arities
+// How many formulas of a book stand before the first that uses a predicate number with another arity.
+pub fn find_arities(image: &[u8]) -> Option<usize>
     requires { GoodBook (book_of image.now) × (encode_book (book_of image.now) ≡ image.now) }
     ensures { result ≡ arities (book_uses (book_of image.now)) }
 {
     let mut table = [0u8; 65536];
-    scan(image, &mut table)
+    find_clash(image, &mut table)
 }

@@ -1,4 +1,5 @@
 -- From what the pass over a text ends with to what is answered.
+use Rattle.std.specs.Prelude.{Option, Some, None}
 use Prim.Native.Nat.{ℕ, suc, ◌+◌, ◌-◌, ◌≤◌, ◌<◌}
 use mathlib.Core.Path.{◌≡◌, refl, sym as inv, ap, ap₂, ◌∙◌, subst}
 use mathlib.Core.Logic.{inl, inr}
@@ -39,8 +40,6 @@ use Rattle.reader.specs.Start.{Zeros, fresh-empty}
 use Rattle.records.proofs.Tables.{zeros-met}
 use Rattle.storage.specs.Storage.{Written}
 use Rattle.readouts.specs.declared.ReadText.{ReadText}
-use Rattle.readouts.specs.declared.Arities.{Arities}
-use Rattle.readouts.specs.declared.Arities.TheVariants.{One, Two}
 use Rattle.readouts.specs.Place.{formula_place}
 use Rattle.readouts.specs.Clash.{arities}
 use Rattle.readouts.specs.Outcome as Outcome
@@ -188,10 +187,10 @@ module _ (text starts lens image : List ℕ) (b : Draft) (f : Finished text star
   pub finished-image : encode_book (book_of image) ≡ image
   finished-image = ap encode_book same-book ∙ inv f.image_is
 
-  pub finished-one : (a : Arities) → a ≡ arities (book_uses (book_of image)) → a ≡ One → KeptOne text starts lens image b
+  pub finished-one : (a : Option ℕ) → a ≡ arities (book_uses (book_of image)) → a ≡ None → KeptOne text starts lens image b
   finished-one a e q = record { finished = f; one = ap (λ (x : Next.Book). arities (book_uses x)) (inv same-book) ∙ inv e ∙ q }
 
-  pub finished-two : (books lists : List ℕ) (a : Arities) (k place : ℕ) (r : ReadText) → a ≡ arities (book_uses (book_of image)) → a ≡ Two k → place ≡ formula_place text k → r ≡ Outcome.refusal 7 place →
+  pub finished-two : (books lists : List ℕ) (a : Option ℕ) (k place : ℕ) (r : ReadText) → a ≡ arities (book_uses (book_of image)) → a ≡ Some k → place ≡ formula_place text k → r ≡ Outcome.refusal 7 place →
       Is text books lists r books lists
   finished-two books lists a k place r e q p s =
       answers (s ∙ ap (Outcome.refusal 7) p)

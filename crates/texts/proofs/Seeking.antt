@@ -16,54 +16,22 @@ use Rattle.pieces.specs.declared.Found.TheVariants as F
 use Rattle.pieces.specs.Found.{end_of}
 use Rattle.reader.proofs.Walks.{piece-end}
 use Rattle.readouts.specs.Place.{seek, formula_place}
+use Rattle.texts.specs.declared.places.Sign.{Sign}
+use Rattle.texts.specs.declared.places.Sign.TheVariants.{Name, Opening, Closing, Comma, Other, Nothing}
 use Rattle.texts.specs.Seek.{sign_of, here, left_after, depth_after}
-
--- Tests
-
-pub here-none : (sign left depth : ℕ) → sign ≡ 4 → true ≡ here sign left depth
-here-none sign left depth e = rw (eq-eqb sign 4 e) refl
-
-pub here-other : (sign left depth : ℕ) → (sign ≡ 4 → ⊥) → (sign ≡ 1 → ⊥) → false ≡ here sign left depth
-here-other sign left depth d e = rw (ne_eqb sign 4 d, ne_eqb sign 1 e) refl
-
-pub here-deep : (sign left depth : ℕ) → (sign ≡ 4 → ⊥) → sign ≡ 1 → (depth ≡ 0 → ⊥) → false ≡ here sign left depth
-here-deep sign left depth d e n = rw (ne_eqb sign 4 d, eq-eqb sign 1 e, ne_eqb depth 0 n) refl
-
-pub here-name : (sign left depth : ℕ) → (sign ≡ 4 → ⊥) → sign ≡ 1 → depth ≡ 0 → eqb left 0 ≡ here sign left depth
-here-name sign left depth d e n = rw (ne_eqb sign 4 d, eq-eqb sign 1 e, eq-eqb depth 0 n) refl
-
-pub left_other : (sign left depth : ℕ) → (sign ≡ 1 → ⊥) → left ≡ left_after sign left depth
-left_other sign left depth e = rw (ne_eqb sign 1 e) refl
-
-pub left-deep : (sign left depth : ℕ) → sign ≡ 1 → (depth ≡ 0 → ⊥) → left ≡ left_after sign left depth
-left-deep sign left depth e n = rw (eq-eqb sign 1 e, ne_eqb depth 0 n) refl
-
-pub left-name : (sign left depth r : ℕ) → sign ≡ 1 → depth ≡ 0 → r ≡ left - 1 → r ≡ left_after sign left depth
-left-name sign left depth r e n q = rw (eq-eqb sign 1 e, eq-eqb depth 0 n) q
-
-pub depth-opening : (sign depth : ℕ) → sign ≡ 2 → depth + 1 ≡ depth_after sign depth
-depth-opening sign depth e = rw (eq-eqb sign 2 e) refl
-
-pub depth-closing : (sign depth r : ℕ) → (sign ≡ 2 → ⊥) → sign ≡ 3 → r ≡ depth - 1 → r ≡ depth_after sign depth
-depth-closing sign depth r d e q = rw (ne_eqb sign 2 d, eq-eqb sign 3 e) q
-
-pub depth-other : (sign depth : ℕ) → (sign ≡ 2 → ⊥) → (sign ≡ 3 → ⊥) → depth ≡ depth_after sign depth
-depth-other sign depth d e = rw (ne_eqb sign 2 d, ne_eqb sign 3 e) refl
-
-pub ruleset heres = (here-none, here-other, here-deep, here-name, left_other, left-deep, left-name, depth-opening, depth-closing, depth-other)
 
 -- One piece
 
-abbrev sign : Piece → ℕ
-sign (token (name w)) = 1
-sign (token (variable w)) = 0
-sign (token opening) = 2
-sign (token closing) = 3
-sign (token comma) = 0
-sign (token arrow) = 0
-sign (token stop) = 0
-sign (blank b) = 0
-sign (comment c) = 0
+abbrev sign : Piece → Sign
+sign (token (name w)) = Name
+sign (token (variable w)) = Other
+sign (token opening) = Opening
+sign (token closing) = Closing
+sign (token comma) = Comma
+sign (token arrow) = Other
+sign (token stop) = Other
+sign (blank b) = Other
+sign (comment c) = Other
 
 -- the search goes on behind it
 seek-on : (p : Piece) (ps : List Piece) (k d at : ℕ) → here (sign p) k d ≡ false → seek k d at (p ∷ ps) ≡ seek (left_after (sign p) k d) (depth_after (sign p) d) (at + length (spelt p)) ps
@@ -96,7 +64,7 @@ seek-here (comment c) ps k d at h = absurd (true≢false (inv h))
 -- what is found is a piece, or none
 data Sort (text : List ℕ) (at : ℕ) (found : Found) : Type 0 where
   piece : (p : Piece) (r : List ℕ) → front_at text at found ≡ front p r → sign_of found ≡ sign p → Sort text at found
-  none : ((more : List ℕ → List Piece) → piece_before (front_at text at found) more ≡ []) → sign_of found ≡ 4 → Sort text at found
+  none : ((more : List ℕ → List Piece) → piece_before (front_at text at found) more ≡ []) → sign_of found ≡ Nothing → Sort text at found
 
 sorted : (text : List ℕ) (at : ℕ) (found : Found) → Sort text at found
 sorted text at (F.Name end) = piece _ _ refl refl
@@ -138,35 +106,35 @@ module _ (text : List ℕ) (k left depth at : ℕ) (found : Found) (g : Seeking 
   found-piece : (p : Piece) (r : List ℕ) → front_at text at found ≡ front p r → seek left depth at (p ∷ pieces_of (g.fuel - 1) r) ≡ formula_place text k
   found-piece p r f = ap (λ (x : Front.Front). seek left depth at (piece_before x (λ rest. pieces_of (g.fuel - 1) rest))) (inv f) ∙ goes
 
-  pub seeking-here : (s : ℕ) (t : Bool) → s ≡ sign_of found → t ≡ here s left depth → t ≡ true → at ≡ formula_place text k
+  pub seeking-here : (s : Sign) (t : Bool) → s ≡ sign_of found → t ≡ here s left depth → t ≡ true → at ≡ formula_place text k
   seeking-here s t e h y = by (sorted text at found)
     where
       by : Sort text at found → at ≡ formula_place text k
-      by (piece p r f q) = inv (seek-here p (pieces_of (g.fuel - 1) r) left depth at (ap (λ (x : ℕ). here x left depth) (inv (e ∙ q)) ∙ inv h ∙ y)) ∙ found-piece p r f
+      by (piece p r f q) = inv (seek-here p (pieces_of (g.fuel - 1) r) left depth at (ap (λ (x : Sign). here x left depth) (inv (e ∙ q)) ∙ inv h ∙ y)) ∙ found-piece p r f
       by (none f q) = ap (seek left depth at) (inv (f (λ rest. pieces_of (g.fuel - 1) rest))) ∙ goes
 
-  module _ (s : ℕ) (t : Bool) (e : s ≡ sign_of found) (h : t ≡ here s left depth) (no : t ≡ false) where
+  module _ (s : Sign) (t : Bool) (e : s ≡ sign_of found) (h : t ≡ here s left depth) (no : t ≡ false) where
     going : (left' depth' end : ℕ) → left' ≡ left_after s left depth → depth' ≡ depth_after s depth → end ≡ end_of at found → Sort text at found →
         Seeking text k left' depth' end × (at < end)
-    going left' depth' end a b c (none f q) = absurd (true≢false (inv (rw (eq-eqb s 4 (e ∙ q)) at h) ∙ no))
+    going left' depth' end a b c (none f q) = absurd (true≢false (inv (h ∙ ap (λ (x : Sign). here x left depth) (e ∙ q)) ∙ no))
     going left' depth' end a b c (piece p r f q) =
         let z = piece-end text at found p r shows.inside f in
-        let on = seek-on p (pieces_of (g.fuel - 1) r) left depth at (ap (λ (x : ℕ). here x left depth) (inv (e ∙ q)) ∙ inv h ∙ no) in
-        let l-is : left' ≡ left_after (sign p) left depth = a ∙ ap (λ (x : ℕ). left_after x left depth) (e ∙ q) in
-        let d-is : depth' ≡ depth_after (sign p) depth = b ∙ ap (λ (x : ℕ). depth_after x depth) (e ∙ q) in
+        let on = seek-on p (pieces_of (g.fuel - 1) r) left depth at (ap (λ (x : Sign). here x left depth) (inv (e ∙ q)) ∙ inv h ∙ no) in
+        let l-is : left' ≡ left_after (sign p) left depth = a ∙ ap (λ (x : Sign). left_after x left depth) (e ∙ q) in
+        let d-is : depth' ≡ depth_after (sign p) depth = b ∙ ap (λ (x : Sign). depth_after x depth) (e ∙ q) in
         let same : seek left' depth' end (pieces_of (g.fuel - 1) (drop end text)) ≡ formula_place text k =
         ap₂ (λ (i j : ℕ). seek i j end (pieces_of (g.fuel - 1) (drop end text))) l-is d-is
         ∙ ap₂ (λ (i : ℕ) (x : List ℕ). seek (left_after (sign p) left depth) (depth_after (sign p) depth) i (pieces_of (g.fuel - 1) x)) (c ∙ inv z.length_is) (ap (λ (i : ℕ). drop i text) c ∙ inv z.rest_is)
         ∙ inv on ∙ found-piece p r f in
         (record { fuel = g.fuel - 1; enough = omega (arith, g.enough, c, z.onward, z.inside); is = same; inside = omega (arith, c, z.inside); low = omega (arith, deeper s depth, b, g.low, c, z.onward) }, omega (arith, c, z.onward))
       where
-        deeper : (x d : ℕ) → depth_after x d ≤ d + 1
-        deeper x d = low (eqb x 2) (eqb x 3) refl refl
-          where
-            low : (m n : Bool) → eqb x 2 ≡ m → eqb x 3 ≡ n → depth_after x d ≤ d + 1
-            low true n p q = rw p (omega arith)
-            low false true p q = rw (p, q) (omega arith)
-            low false false p q = rw (p, q) (omega arith)
+        deeper : (x : Sign) (d : ℕ) → depth_after x d ≤ d + 1
+        deeper Name d = omega arith
+        deeper Opening d = omega arith
+        deeper Closing d = omega arith
+        deeper Comma d = omega arith
+        deeper Other d = omega arith
+        deeper Nothing d = omega arith
 
     pub seeking-next : (left' depth' end : ℕ) → left' ≡ left_after s left depth → depth' ≡ depth_after s depth → end ≡ end_of at found → Seeking text k left' depth' end
     seeking-next left' depth' end a b c = (going left' depth' end a b c (sorted text at found)).0

@@ -1,5 +1,5 @@
 -- What is held when a text is read to its end.
-use Rattle.std.specs.Prelude.{ℕ, ◌+◌, ◌≤◌, ◌≡◌, List, ◌++◌, length, Result}
+use Rattle.std.specs.Prelude.{ℕ, ◌+◌, ◌≤◌, ◌≡◌, List, ◌++◌, length, Result, None}
 use Rattle.format.specs.Format.{encode_book}
 use Rattle.format.specs.Arities.{book_uses}
 use Rattle.grammar.specs.Syntax.{Rule}
@@ -10,7 +10,6 @@ use Rattle.symbols.specs.Sections.{part}
 use Rattle.drafts.specs.declared.Draft.{Draft}
 use Rattle.listing.specs.Lists.{heard, noted, sizes, Within}
 use Rattle.reader.specs.Walking.{Ends}
-use Rattle.readouts.specs.declared.Arities.TheVariants.{One}
 use Rattle.readouts.specs.Clash.{arities}
 
 -- the pass has ended so
@@ -54,4 +53,4 @@ pub record Finished (text starts lens image : List ℕ) (b : Draft) : Type 0 whe
 -- and its predicate numbers keep one arity
 pub record KeptOne (text starts lens image : List ℕ) (b : Draft) : Type 0 where
   pub finished : Finished text starts lens image b
-  pub one : arities (book_uses (book finished.rules)) ≡ One
+  pub one : arities (book_uses (book finished.rules)) ≡ None

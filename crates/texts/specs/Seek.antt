@@ -3,28 +3,45 @@ use Rattle.std.specs.Prelude.{ℕ, ◌+◌, ◌-◌, Bool, true, false, eqb}
 use Rattle.terms.specs.When.{◌⇒◌∣◌}
 use Rattle.pieces.specs.declared.Found.{Found}
 use Rattle.pieces.specs.declared.Found.TheVariants as F
+use Rattle.texts.specs.declared.places.Sign.{Sign}
+use Rattle.texts.specs.declared.places.Sign.TheVariants.{Name, Opening, Closing, Comma, Other, Nothing}
 
--- what a piece is to the search: 1 a name, 2 and 3 the brackets, 0 another piece, 4 none
-abbrev pub sign_of : Found → ℕ
-sign_of (F.Name end) = 1
-sign_of (F.Variable end) = 0
-sign_of F.Space = 0
-sign_of (F.Comment end) = 0
-sign_of F.Opening = 2
-sign_of F.Closing = 3
-sign_of F.Comma = 0
-sign_of F.Arrow = 0
-sign_of F.Stop = 0
-sign_of F.HalfArrow = 4
-sign_of F.HalfStop = 4
-sign_of F.Nothing = 4
+-- what a piece is to the search
+abbrev pub sign_of : Found → Sign
+sign_of (F.Name end) = Name
+sign_of (F.Variable end) = Other
+sign_of F.Space = Other
+sign_of (F.Comment end) = Other
+sign_of F.Opening = Opening
+sign_of F.Closing = Closing
+sign_of F.Comma = Comma
+sign_of F.Arrow = Other
+sign_of F.Stop = Other
+sign_of F.HalfArrow = Nothing
+sign_of F.HalfStop = Nothing
+sign_of F.Nothing = Nothing
 
 -- the search ends before it
-abbrev pub here : ℕ → ℕ → ℕ → Bool
-here sign left depth = eqb sign 4 ⇒ true ∣ eqb sign 1 ⇒ (eqb depth 0 ⇒ eqb left 0 ∣ false) ∣ false
+abbrev pub here : Sign → ℕ → ℕ → Bool
+here Name left depth = eqb depth 0 ⇒ eqb left 0 ∣ false
+here Opening left depth = false
+here Closing left depth = false
+here Comma left depth = false
+here Other left depth = false
+here Nothing left depth = true
 
-abbrev pub left_after : ℕ → ℕ → ℕ → ℕ
-left_after sign left depth = eqb sign 1 ⇒ (eqb depth 0 ⇒ left - 1 ∣ left) ∣ left
+abbrev pub left_after : Sign → ℕ → ℕ → ℕ
+left_after Name left depth = eqb depth 0 ⇒ left - 1 ∣ left
+left_after Opening left depth = left
+left_after Closing left depth = left
+left_after Comma left depth = left
+left_after Other left depth = left
+left_after Nothing left depth = left
 
-abbrev pub depth_after : ℕ → ℕ → ℕ
-depth_after sign depth = eqb sign 2 ⇒ depth + 1 ∣ eqb sign 3 ⇒ depth - 1 ∣ depth
+abbrev pub depth_after : Sign → ℕ → ℕ
+depth_after Name depth = depth
+depth_after Opening depth = depth + 1
+depth_after Closing depth = depth - 1
+depth_after Comma depth = depth
+depth_after Other depth = depth
+depth_after Nothing depth = depth

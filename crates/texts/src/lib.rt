@@ -12,7 +12,7 @@ use drafts::Draft;
 use listing::{measure, put_bytes, put_names};
 use pieces::Refusal;
 use reader::walking::walk;
-use readouts::{Arities, ReadText};
+use readouts::ReadText;
 use scanning::find_arities;
 
 pub mod places; // where a formula stands
@@ -96,8 +96,8 @@ fn judge(
     ensures { Is text.now book.old names.old result book.new names.new }
 {
     match find_arities(image) {
-        Arities::One => give(text, book, names, starts, lens, image, b),
-        Arities::Two(k) => refusal(7, formula_place(text, k)),
+        None => give(text, book, names, starts, lens, image, b),
+        Some(k) => refusal(7, formula_place(text, k)),
     }
 }
 

@@ -1,80 +1,65 @@
 // Where a formula stands in a text that is read (document 02, C-18: "at that formula's first byte").
-ghost use Rattle.std.specs.Prelude.{◌≡◌, ◌-◌, ◌<◌, ◌≤◌, length};
+ghost use Rattle.std.specs.Prelude.{◌≡◌, ◌<◌, ◌≤◌, length};
 ghost use Rattle.readouts.specs.Place.{formula_place};
 ghost use Rattle.texts.specs.Seek.{sign_of, here, left_after, depth_after};
 
 use pieces::{Found, end_of, piece_at};
 
-// What a piece is to the search: 1 a name, 2 and 3 the brackets, 0 another piece, 4 none.
-fn sign(found: Found) -> usize
+// What a piece is to a search for a formula.
+#[derive(Clone, Copy)]
+pub enum Sign {
+    Name,
+    Opening,
+    Closing,
+    Comma,
+    Other,
+    Nothing,
+}
+
+pub fn sign_of(found: Found) -> Sign
     ensures { result ≡ sign_of found }
 {
     match found {
-        Found::Name(_) => 1,
-        Found::Variable(_) => 0,
-        Found::Space => 0,
-        Found::Comment(_) => 0,
-        Found::Opening => 2,
-        Found::Closing => 3,
-        Found::Comma => 0,
-        Found::Arrow => 0,
-        Found::Stop => 0,
-        Found::HalfArrow => 4,
-        Found::HalfStop => 4,
-        Found::Nothing => 4,
+        Found::Name(_) => Sign::Name,
+        Found::Opening => Sign::Opening,
+        Found::Closing => Sign::Closing,
+        Found::Comma => Sign::Comma,
+        Found::HalfArrow | Found::HalfStop | Found::Nothing => Sign::Nothing,
+        _ => Sign::Other,
     }
 }
 
 // Whether the search ends before this piece.
-fn is_here(sign: usize, left: usize, depth: usize) -> bool
+fn is_here(sign: Sign, left: usize, depth: usize) -> bool
     ensures { result ≡ here sign left depth }
 {
-    if sign == 4 {
-        return true;
+    match sign {
+        Sign::Nothing => true,
+        Sign::Name => depth == 0 && left == 0,
+        _ => false,
     }
-    if sign != 1 {
-        return false;
-    }
-    if depth != 0 {
-        return false;
-    }
-    left == 0
-}
-
-fn less(n: usize) -> usize
-    ensures { result ≡ n - 1 }
-{
-    if n == 0 {
-        return 0;
-    }
-    n - 1
 }
 
 // How many names outside brackets are to be passed behind the piece.
-fn left_after(sign: usize, left: usize, depth: usize) -> usize
+fn left_after(sign: Sign, left: usize, depth: usize) -> usize
     ensures { result ≡ left_after sign left depth }
 {
-    if sign != 1 {
-        return left;
+    match sign {
+        Sign::Name if depth == 0 => left.saturating_sub(1),
+        _ => left,
     }
-    if depth != 0 {
-        return left;
-    }
-    less(left)
 }
 
 // How many brackets are open behind the piece.
-pub fn depth_after(sign: usize, depth: usize) -> usize
+pub fn depth_after(sign: Sign, depth: usize) -> usize
     requires { depth < 65536 }
     ensures { result ≡ depth_after sign depth }
 {
-    if sign == 2 {
-        return depth + 1;
+    match sign {
+        Sign::Opening => depth + 1,
+        Sign::Closing => depth.saturating_sub(1),
+        _ => depth,
     }
-    if sign == 3 {
-        return less(depth);
-    }
-    depth
 }
 
 // The first byte of the formula that has k formulas before it.
@@ -87,7 +72,7 @@ pub fn formula_place(text: &[u8], k: usize) -> usize
     let mut at = 0;
     while at < text.len() {
         let found = piece_at(text, at);
-        let s = sign(found);
+        let s = sign_of(found);
         if is_here(s, left, depth) {
             return at;
         }

@@ -1,4 +1,4 @@
-use Rattle.namelist.proofs.Walking.{finding, finding-said}
+use Rattle.namelist.proofs.Walking.{finding, finding_hit, finding-end}
 use Rattle.namelist.proofs.find.Goals as goal
 
 pub loop-at-init : goal.loop-at-init
@@ -7,11 +7,11 @@ loop-at-init c = search finding
 pub is_entry-requires : goal.is_entry-requires
 is_entry-requires c = search finding
 
-pub byte-requires : goal.byte-requires
-byte-requires c = search finding
+pub name_at-requires : goal.name_at-requires
+name_at-requires c = record { at_in_bounds = search finding; at_in_bounds_2 = search finding }
 
 pub returns-then-is_entry : goal.returns-then-is_entry
-returns-then-is_entry c = λ l k h e. search finding-said
+returns-then-is_entry c = finding_hit _ _ _ _ _ c.name_at.result c.loop-at.invariant c.loop-at-test.true c.is_entry.ensures c.if-is_entry.true c.name_at.ensures _ c.kind-kind.ensures
 
 pub past-at-requires : goal.past-at-requires
 past-at-requires c = record { at_in_bounds = search finding; at_in_bounds_2 = search finding }
@@ -20,4 +20,4 @@ pub loop-at-preserved : goal.loop-at-preserved
 loop-at-preserved c = search finding
 
 pub returns : goal.returns
-returns c = λ l k h e. search finding-said
+returns c = finding-end _ _ _ _ c.loop-at.invariant c.loop-at-test.false _ c.kind-kind.ensures

@@ -1,20 +1,5 @@
-use Rattle.namelist.proofs.Naming.{naming-rules}
+use Rattle.namelist.proofs.Naming.{name-is}
 use Rattle.namelist.proofs.is_name.Goals as goal
 
-pub returns-then-len-eq0 : goal.returns-then-len-eq0
-returns-then-len-eq0 c = search naming-rules
-
-pub returns-then-not-small : goal.returns-then-not-small
-returns-then-not-small c = search naming-rules
-
-pub loop-i-init : goal.loop-i-init
-loop-i-init c = search naming-rules
-
-pub returns-then-not-goes_on : goal.returns-then-not-goes_on
-returns-then-not-goes_on c = search naming-rules
-
-pub loop-i-preserved : goal.loop-i-preserved
-loop-i-preserved c = search naming-rules
-
-pub returns : goal.returns
-returns c = search naming-rules
+pub returns-then-small : goal.returns-then-small
+returns-then-small c = name-is _ _ _ c.in-len1-up.len_at_least c.small.ensures c.if-small.true c.all_go_on.ensures

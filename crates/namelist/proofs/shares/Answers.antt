@@ -1,11 +1,5 @@
-use Rattle.namelist.proofs.Walking.{sharing}
+use Rattle.namelist.proofs.Walking.{shared}
 use Rattle.namelist.proofs.shares.Goals as goal
 
-pub returns-then-byte : goal.returns-then-byte
-returns-then-byte c = search sharing
-
-pub returns-then-len-byte : goal.returns-then-len-byte
-returns-then-len-byte c = search sharing
-
-pub returns : goal.returns
-returns c = search sharing
+pub returns-then-s-a : goal.returns-then-s-a
+returns-then-s-a c = shared c.args.s.now c.args.a c.args.b _ _ _ c.if-s-a.true c.name_at.ensures c.name_at-then-s-a.ensures c.eq.ensures

@@ -5,7 +5,7 @@ pub find_arities-requires : goal.find_arities-requires
 find_arities-requires c = (finished-good _ _ _ _ _ c.requires, finished-image _ _ _ _ _ c.requires)
 
 pub give-requires : goal.give-requires
-give-requires c = finished-one _ _ _ _ _ c.requires _ c.find_arities.ensures c.in-One.is
+give-requires c = finished-one _ _ _ _ _ c.requires _ c.find_arities.ensures c.in-None.is
 
-pub returns-in-Two : goal.returns-in-Two
-returns-in-Two c = finished-two _ _ _ _ _ c.requires _ _ _ _ _ _ c.find_arities.ensures c.in-Two.is c.formula_place.ensures.0 c.refusal.ensures
+pub returns-in-Some : goal.returns-in-Some
+returns-in-Some c = finished-two _ _ _ _ _ c.requires _ _ _ _ _ _ c.find_arities.ensures c.in-Some.is c.formula_place.ensures.0 c.refusal.ensures

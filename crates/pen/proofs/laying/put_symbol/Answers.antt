@@ -1,8 +1,8 @@
-use Rattle.pen.proofs.Layings.{symbol-fits, symboling}
+use Rattle.pen.proofs.Layings.{symbol-laid, symbol-none}
 use Rattle.pen.proofs.laying.put_symbol.Goals as goal
 
-pub put_part-requires : goal.put_part-requires
-put_part-requires c = symbol-fits _ _ _ _ _ c.requires.stands c.requires.kind_value c.find-name.ensures
+pub returns-in-Some : goal.returns-in-Some
+returns-in-Some c = symbol-laid _ _ _ _ _ _ _ _ _ c.in-Some.is c.find.ensures c.put_all.ensures
 
-pub returns : goal.returns
-returns c = search symboling
+pub returns-in-None : goal.returns-in-None
+returns-in-None c = symbol-none _ _ _ _ _ _ c.in-None.is c.find.ensures

@@ -1,5 +1,6 @@
-use Rattle.printer.proofs.Walks.{named_some}
+use mathlib.Core.Path.{◌∙◌}
+use Rattle.namelist.specs.NamingLaws.{gives-some}
 use Rattle.printer.proofs.naming.has_name.Goals as goal
 
 pub returns : goal.returns
-returns c = named_some _ _ _ _ _ c.find-name.ensures
+returns c = λ l h. c.is_some.ensures ∙ gives-some _ _ (c.find.ensures l h)

@@ -1,8 +1,5 @@
-use Rattle.printer.proofs.Walks.{naming-items}
+use Rattle.printer.proofs.Walks.{is-other, naming-items}
 use Rattle.printer.proofs.naming.is_named.Goals as goal
-
-pub returns-in-Variable : goal.returns-in-Variable
-returns-in-Variable c = λ l h. search naming-items
 
 pub returns-in-Constant : goal.returns-in-Constant
 returns-in-Constant c = λ l h. search naming-items
@@ -13,11 +10,5 @@ returns-in-Compound c = λ l h. search naming-items
 pub returns-in-Formula : goal.returns-in-Formula
 returns-in-Formula c = λ l h. search naming-items
 
-pub returns-in-Clause : goal.returns-in-Clause
-returns-in-Clause c = λ l h. search naming-items
-
-pub returns-in-Goal : goal.returns-in-Goal
-returns-in-Goal c = λ l h. search naming-items
-
-pub returns-in-End : goal.returns-in-End
-returns-in-End c = λ l h. search naming-items
+pub returns-in_default : goal.returns-in_default
+returns-in_default c = λ l h. is-other _ c.in_default.not-Constant c.in_default.not-Compound c.in_default.not-Formula l

@@ -1,9 +1,6 @@
 use mathlib.Core.Path.{refl}
-use Rattle.printer.proofs.Wrote.{kind_4, wrote-formula_0, wrote-formula}
+use Rattle.printer.proofs.Wrote.{wrote-formula_0, wrote-formula}
 use Rattle.printer.proofs.writing.write_formula.Goals as goal
-
-pub put_symbol-name-requires : goal.put_symbol-name-requires
-put_symbol-name-requires c = record { stands = c.requires.stands; kind_value = kind_4 }
 
 pub returns-then-n-eq0 : goal.returns-then-n-eq0
 returns-then-n-eq0 c = wrote-formula_0 _ _ _ _ _ _ _ _ _ _ _ _ c.put_sign-sign.ensures c.put_symbol-name.ensures c.next_turn-turn.ensures c.if-n-eq0.true c.requires.room refl

@@ -1,8 +1,9 @@
 -- Records one by one.
+use Rattle.std.specs.Prelude.{Some, None}
 use Prim.Native.Nat.{ℕ, ◌+◌, ◌≤◌, ◌<◌}
 use mathlib.Core.Path.{◌≡◌, refl, sym as inv, ap, ap₂, ◌∙◌, subst}
-use mathlib.Core.Bool.{Bool, true, false, not, true≢false}
-use mathlib.Core.List.{List, [], ◌∷◌}
+use mathlib.Core.Bool.{Bool, true, false, not}
+use mathlib.Core.List.{List, [], ◌∷◌, ◌++◌}
 use native.Mathlib.Omega.{arith}
 use borrow.Author.Tests.{not-true, not-false}
 use lib.ListN.{length, get_or, drop, length-drop, length-append}
@@ -12,14 +13,27 @@ use Rattle.format.specs.declared.Record.{Record}
 use Rattle.format.specs.declared.Record.TheVariants.{Variable, Constant, Compound, Formula, Clause, Goal, End}
 use Rattle.format.specs.Format.{record_kind, encode_record, encode}
 use Rattle.format.specs.Reading.{body_length, record_at, in_range}
-use Rattle.format.specs.Arities.{uses_of, Memory, meets, recall, keeps, recalled}
+use Rattle.format.specs.Arities.{Use, record_uses, uses_of, Memory, meets, recall, recalled}
 use Rattle.format.proofs.Encoded.{encoded}
+use Rattle.readouts.specs.Clash.{arities_from}
 use Rattle.scanning.specs.Remembers.{Remembers}
-use Rattle.questions.specs.Outcome.{kept}
-use Rattle.clashing.specs.Meeting.{AllRange, MeetsAll, Met}
-use Rattle.clashing.proofs.Single.{counted, kept_step, length-step, recall-step, plain-kept}
+use Rattle.scanning.specs.Meeting.{AllRange, MeetsAll, Met}
+use Rattle.scanning.proofs.Records.{record_step}
 
--- All records
+pub some-none : (k : ℕ) → Some k ≡ None → ⊥
+some-none k e = cc
+
+abbrev counted : ℕ → ℕ → ℕ
+counted kind k = eqb kind 4 ⇒ k + 1 ∣ k
+
+recall-step : (m : Memory) (r : Record) (us : List Use) → recall m (record_uses r ++ us) ≡ recall (meets m r) us
+recall-step m (Variable v) us = refl
+recall-step m (Constant c) us = refl
+recall-step m (Compound f n) us = refl
+recall-step m (Formula p n) us = refl
+recall-step m (Clause n) us = refl
+recall-step m (Goal n) us = refl
+recall-step m End us = refl
 
 -- what is left, for whichever records the image is of
 pub record Scanning (image table₀ table : List ℕ) (k i : ℕ) : Type 0 where
@@ -30,8 +44,7 @@ pub record Scanning (image table₀ table : List ℕ) (k i : ℕ) : Type 0 where
   pub left : List Record
   pub here : drop i image ≡ encode left
   pub ranged : AllRange left
-  pub counts : k + kept (recalled table) (uses_of left) ≡ kept (recalled table₀) (uses_of some.records)
-  pub total : k + length (uses_of left) ≡ length (uses_of some.records)
+  pub counts : arities_from (recalled table) k (uses_of left) ≡ arities_from (recalled table₀) 0 (uses_of some.records)
   pub met : recall (recalled table) (uses_of left) ≡ recall (recalled table₀) (uses_of some.records)
 
 pub scanning-start : (image table : List ℕ) → MeetsAll image → Scanning image table table 0 0
@@ -44,8 +57,7 @@ scanning-start image table x =
       left = x.records;
       here = x.is;
       ranged = x.ranged;
-      counts = omega arith;
-      total = omega arith;
+      counts = refl;
       met = refl;
     }
 
@@ -114,63 +126,34 @@ module _ (image table₀ table : List ℕ) (k i : ℕ) (g : Scanning image table
     left_is : g.left ≡ item ∷ next.behind
     left_is = next.is ∙ ap (λ (x : Record). x ∷ next.behind) (inv e)
 
-    kind_is : record_kind item ≡ get_or image i 0
-    kind_is = ap record_kind e ∙ next.kind
-
-    stepped : (t ⇒ counted (get_or image i 0) k + kept (meets (recalled table) item) (uses_of next.behind) ∣ k) ≡ kept (recalled table₀) (uses_of g.some.records)
+    stepped : (t ⇒ arities_from (meets (recalled table) item) (counted (record_kind item) k) (uses_of next.behind) ∣ Some k) ≡ arities_from (recalled table₀) 0 (uses_of g.some.records)
     stepped =
-        ap₂ (λ (x : Bool) (j : ℕ). x ⇒ counted j k + kept (meets (recalled table) item) (uses_of next.behind) ∣ k) h.answer (inv kind_is)
-        ∙ inv (kept_step (recalled table) k item (uses_of next.behind))
-        ∙ ap (λ (rs : List Record). k + kept (recalled table) (uses_of rs)) (inv left_is)
+        ap (λ (x : Bool). x ⇒ arities_from (meets (recalled table) item) (counted (record_kind item) k) (uses_of next.behind) ∣ Some k) h.answer
+        ∙ inv (record_step (recalled table) k item (uses_of next.behind))
+        ∙ ap (λ (rs : List Record). arities_from (recalled table) k (uses_of rs)) (inv left_is)
         ∙ g.counts
 
-    total-step : counted (get_or image i 0) k + length (uses_of next.behind) ≡ length (uses_of g.some.records)
-    total-step =
-        ap (λ (j : ℕ). counted j k + length (uses_of next.behind)) (inv kind_is)
-        ∙ inv (length-step k item (uses_of next.behind))
-        ∙ ap (λ (rs : List Record). k + length (uses_of rs)) (inv left_is)
-        ∙ g.total
-
-    some_left : t ≡ false → k < length (uses_of g.some.records)
-    some_left z = by item refl
-      where
-        no : (r : Record) → item ≡ r → keeps (recalled table) r ≡ true → k < length (uses_of g.some.records)
-        no r q y = absurd (true≢false (inv (h.answer ∙ ap (keeps (recalled table)) q ∙ y) ∙ z))
-
-        by : (r : Record) → item ≡ r → k < length (uses_of g.some.records)
-        by (Variable v) q = no (Variable v) q (plain-kept (recalled table) (Variable v) tt)
-        by (Constant c) q = no (Constant c) q (plain-kept (recalled table) (Constant c) tt)
-        by (Compound f n) q = no (Compound f n) q (plain-kept (recalled table) (Compound f n) tt)
-        by (Formula p n) q = let y : counted 4 k + length (uses_of next.behind) ≡ length (uses_of g.some.records) = subst (λ (j : ℕ). counted j k + length (uses_of next.behind) ≡ length (uses_of g.some.records)) (inv kind_is ∙ ap record_kind q) total-step in omega (arith, y)
-        by (Clause n) q = no (Clause n) q (plain-kept (recalled table) (Clause n) tt)
-        by (Goal n) q = no (Goal n) q (plain-kept (recalled table) (Goal n) tt)
-        by End q = no End q (plain-kept (recalled table) End tt)
-
-    pub scanning-stops : not t ≡ true → Met image table₀ table' k
+    pub scanning-stops : not t ≡ true → Met image table₀ table' (Some k)
     scanning-stops z =
-        let y : k ≡ kept (recalled table₀) (uses_of g.some.records) = rw (not-true t z) at stepped in
+        let y : Some k ≡ arities_from (recalled table₀) 0 (uses_of g.some.records) = rw (not-true t z) at stepped in
         record {
-          counts = λ rs is a. y ∙ ap (λ (x : List Record). kept (recalled table₀) (uses_of x)) (same-records rs is a);
-          remembers = λ rs is a q. absurd (let u = some_left (not-true t z) in let v = ap (λ (x : List Record). length (uses_of x)) (same-records rs is a) in omega (arith, u, v, q));
+          counts = λ rs is a. y ∙ ap (λ (x : List Record). arities_from (recalled table₀) 0 (uses_of x)) (encode_one g.some.records rs g.some.ranged a (inv g.some.is ∙ is));
+          remembers = λ rs is a q. absurd (some-none k q);
           same = kept-length ∙ g.same;
         }
-      where
-        same-records : (rs : List Record) → image ≡ encode rs → AllRange rs → g.some.records ≡ rs
-        same-records rs is a = encode_one g.some.records rs g.some.ranged a (inv g.some.is ∙ is)
 
-    pub scanning-next : (k' j : ℕ) → not t ≡ false → k' ≡ counted (get_or image i 0) k → j ≡ i + 1 + body_length (get_or image i 0) → Scanning image table₀ table' k' j
+    pub scanning-next : (k' j : ℕ) → not t ≡ false → k' ≡ counted (record_kind item) k → j ≡ i + 1 + body_length (get_or image i 0) → Scanning image table₀ table' k' j
     scanning-next k' j z q w =
         let m = h.remembered (not-false t z) in
         record {
           some = g.some;
           inside = omega (arith, w, next.body);
-          low = omega (arith, q, w, g.low, counted-low (eqb (get_or image i 0) 4) refl);
+          low = omega (arith, q, w, g.low, counted-low (eqb (record_kind item) 4) refl);
           same = kept-length ∙ g.same;
           left = next.behind;
           here = ap (λ (x : ℕ). drop x image) w ∙ next.later;
           ranged = next.ranged;
-          counts = ap₂ (λ (x : Memory) (y : ℕ). y + kept x (uses_of next.behind)) m q ∙ (rw (not-false t z) at stepped);
-          total = ap (λ (y : ℕ). y + length (uses_of next.behind)) q ∙ total-step;
+          counts = ap₂ (λ (x : Memory) (y : ℕ). arities_from x y (uses_of next.behind)) m q ∙ (rw (not-false t z) at stepped);
           met =
               ap (λ (x : Memory). recall x (uses_of next.behind)) m
               ∙ inv (recall-step (recalled table) item (uses_of next.behind))
@@ -178,19 +161,19 @@ module _ (image table₀ table : List ℕ) (k i : ℕ) (g : Scanning image table
               ∙ g.met;
         }
       where
-        counted-low : (b : Bool) → eqb (get_or image i 0) 4 ≡ b → counted (get_or image i 0) k ≤ k + 1
+        counted-low : (b : Bool) → eqb (record_kind item) 4 ≡ b → counted (record_kind item) k ≤ k + 1
         counted-low true p = rw p (omega arith)
         counted-low false p = rw p (omega arith)
 
-pub scanning-end : (image table₀ table : List ℕ) (k i : ℕ) → Scanning image table₀ table k i → length image ≤ i → Met image table₀ table k
+pub scanning-end : (image table₀ table : List ℕ) (k i : ℕ) → Scanning image table₀ table k i → length image ≤ i → Met image table₀ table None
 scanning-end image table₀ table k i g h = by g.left g.here refl
   where
-    by : (rs : List Record) → drop i image ≡ encode rs → g.left ≡ rs → Met image table₀ table k
+    by : (rs : List Record) → drop i image ≡ encode rs → g.left ≡ rs → Met image table₀ table None
     by [] e q =
-        let y : k + 0 ≡ kept (recalled table₀) (uses_of g.some.records) = ap (λ (rs : List Record). k + kept (recalled table) (uses_of rs)) (inv q) ∙ g.counts in
+        let y : None ≡ arities_from (recalled table₀) 0 (uses_of g.some.records) = ap (λ (rs : List Record). arities_from (recalled table) k (uses_of rs)) (inv q) ∙ g.counts in
         let z : recalled table ≡ recall (recalled table₀) (uses_of g.some.records) = ap (λ (rs : List Record). recall (recalled table) (uses_of rs)) (inv q) ∙ g.met in
         record {
-          counts = λ ss is a. let s = ap (λ (x : List Record). kept (recalled table₀) (uses_of x)) (encode_one g.some.records ss g.some.ranged a (inv g.some.is ∙ is)) in omega (arith, y, s);
+          counts = λ ss is a. y ∙ ap (λ (x : List Record). arities_from (recalled table₀) 0 (uses_of x)) (encode_one g.some.records ss g.some.ranged a (inv g.some.is ∙ is));
           remembers = λ ss is a p. z ∙ ap (λ (x : List Record). recall (recalled table₀) (uses_of x)) (encode_one g.some.records ss g.some.ranged a (inv g.some.is ∙ is));
           same = g.same;
         }

@@ -1,6 +1,6 @@
-use Rattle.clashing.proofs.Scanning.{scanning}
+use Rattle.scanning.proofs.Meetings.{scanning}
 use borrow.Author.Rules.{rules}
-use Rattle.clashing.proofs.meet_all.Goals as goal
+use Rattle.scanning.proofs.find_clash.Goals as goal
 
 pub loop-i-init : goal.loop-i-init
 loop-i-init c = (search scanning, search rules)

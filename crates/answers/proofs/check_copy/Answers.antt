@@ -1,8 +1,0 @@
-use Prim.Native.Nat.{◌-◌}
-use native.Mathlib.Omega.{arith}
-use lib.ListN.{length}
-use Rattle.answers.proofs.Clearing.{copied-check}
-use Rattle.answers.proofs.check_copy.Goals as goal
-
-pub returns : goal.returns
-returns c = copied-check _ c.args.answer.now _ (length c.args.answer.now - 0) _ c.fill.ensures (omega arith) c.check_cleared.ensures
