@@ -1,5 +1,5 @@
 -- Records of open symbols, and what a name adds.
-use Prim.Native.Nat.{ℕ, zero, suc, ◌+◌, ◌-◌, ◌≤◌, ◌<◌}
+use Prim.Native.Nat.{ℕ, suc, ◌+◌, ◌-◌, ◌≤◌, ◌<◌}
 use mathlib.Core.Path.{◌≡◌, refl, sym as inv, ap, subst, ◌∙◌}
 use mathlib.Core.List.{List, [], ◌∷◌, ◌++◌}
 use native.Mathlib.Omega.{arith}
@@ -14,7 +14,7 @@ use Rattle.reading.specs.Limits.{SmallPart}
 use Rattle.reading.specs.Draft.{done_spots, sort_in, drafts, raise, drafts-append, drafts-count, opened-raised, opening-drafts, formula-drafts, constant-drafts}
 use Rattle.nametable.specs.Table.{word}
 use Rattle.drafts.specs.declared.Kind.{Kind}
-use Rattle.drafts.specs.declared.Kind.TheVariants.{Constant, Compound, Predicate}
+use Rattle.drafts.specs.declared.Kind.TheVariants.{Constant, Predicate}
 use Rattle.drafts.specs.declared.Draft.{Draft}
 use Rattle.drafts.specs.Drafted.{sort_of_kind, Tables, Bracketed, weight, Drafted, Somewhere, Adds}
 use Rattle.drafts.proofs.Raising.{weight-append, weight-low, weighs, arity-is, raised-drafted}
@@ -207,11 +207,3 @@ bumped-at out out' from x y e h = subst (λ (z : ℕ). out' ≡ bumped out (from
 
 pub bump_low : (out : List ℕ) (from n x y : ℕ) → x ≡ y → from + (y + 3) < n → get_or out (from + (y + 3)) 0 < 255 → (from + (x + 3) < n) × (get_or out (from + (x + 3)) 0 < 255)
 bump_low out from n x y e l h = (omega (arith, e, l), subst (λ (z : ℕ). get_or out (from + (z + 3)) 0 < 255) (inv e) h)
-
-pub kind-root : (k : ℕ) → k ≡ 0 → Predicate ≡ kind_at k
-kind-root zero z = refl
-kind-root (suc k) z = absurd (omega arith)
-
-pub kind-nested : (k : ℕ) → (k ≡ 0 → ⊥) → Compound ≡ kind_at k
-kind-nested zero z = absurd (z refl)
-kind-nested (suc k) z = refl

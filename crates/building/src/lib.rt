@@ -30,10 +30,10 @@ fn bump(out: &mut [u8], opens: &[u16], from: usize, k: usize)
 fn kind_at(depth: usize) -> Kind
     ensures { result ≡ kind_at depth }
 {
-    if depth == 0 {
-        return Kind::Predicate;
+    match depth {
+        0 => Kind::Predicate,
+        _ => Kind::Compound,
     }
-    Kind::Compound
 }
 
 // A bracket behind a name.
@@ -50,24 +50,16 @@ pub fn open(
     requires { Ready text.now out.old opens.old starts.old lens.old heads.old nexts.old w }
     ensures { Opened text.now out.old out.new opens.old opens.new starts.old lens.old heads.old nexts.old starts.new lens.new heads.new nexts.new w result }
 {
-    let b = w.draft;
-    let depth = w.depth;
+    let Work {
+        draft: b,
+        depth,
+        at,
+        len,
+    } = w;
     opens[depth] = b.len as u16;
     let kind = kind_at(depth);
-    symbol(
-        text,
-        starts,
-        lens,
-        heads,
-        nexts,
-        out,
-        b,
-        Named {
-            kind,
-            at: w.at,
-            len: w.len,
-        },
-    )
+    let name = Named { kind, at, len };
+    symbol(text, starts, lens, heads, nexts, out, b, name)
 }
 
 // A name that stands alone.
@@ -84,35 +76,21 @@ pub fn alone(
     requires { Ready text.now out.old opens.now starts.old lens.old heads.old nexts.old w }
     ensures { Alone text.now out.old out.new opens.now starts.old lens.old heads.old nexts.old starts.new lens.new heads.new nexts.new w result }
 {
-    let b = w.draft;
-    let depth = w.depth;
-    let at = w.at;
-    let len = w.len;
+    let Work {
+        draft: b,
+        depth,
+        at,
+        len,
+    } = w;
     if depth == 0 {
         let kind = Kind::Predicate;
-        return symbol(
-            text,
-            starts,
-            lens,
-            heads,
-            nexts,
-            out,
-            b,
-            Named { kind, at, len },
-        );
+        let name = Named { kind, at, len };
+        return symbol(text, starts, lens, heads, nexts, out, b, name);
     }
     bump(out, opens, b.from, depth - 1);
     let kind = Kind::Constant;
-    symbol(
-        text,
-        starts,
-        lens,
-        heads,
-        nexts,
-        out,
-        b,
-        Named { kind, at, len },
-    )
+    let name = Named { kind, at, len };
+    symbol(text, starts, lens, heads, nexts, out, b, name)
 }
 
 // One more argument, a variable by its number.

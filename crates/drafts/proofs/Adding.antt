@@ -201,8 +201,6 @@ module _ {text out starts lens heads nexts : List ℕ} {b : Draft} {T : Tables} 
   number-few {starts'} {lens'} {heads'} {nexts'} w r l n =
       number_low k w r d l (subst (λ (x : Section). Numbers text starts lens heads nexts starts' lens' heads' nexts' x w r) p n)
 
-pub put-kind : (out out' : List ℕ) (at n m : ℕ) (kind k : Kind) → kind ≡ k → Wrote out out' at (symbol_bytes k n) → m ≡ length (symbol_bytes k n) → Wrote out out' at (symbol_bytes kind n) × (m ≡ length (symbol_bytes kind n))
-put-kind out out' at n m kind k p w s = (subst (λ (x : Kind). Wrote out out' at (symbol_bytes x n)) (inv p) w, subst (λ (x : Kind). m ≡ length (symbol_bytes x n)) (inv p) s)
 
 pub symbol-short : (k : Kind) (r m : ℕ) → m ≡ length (symbol_bytes k r) → m ≤ 4
 symbol-short k r m s = omega (arith, s, symbol-long k r)

@@ -68,25 +68,19 @@ fn counted(b: Draft, kind: Kind, count: usize, len: usize) -> Draft
 {
     match kind {
         Kind::Constant => Draft {
-            from: b.from,
             len,
             constants: count,
-            compounds: b.compounds,
-            predicates: b.predicates,
+            ..b
         },
         Kind::Compound => Draft {
-            from: b.from,
             len,
-            constants: b.constants,
             compounds: count,
-            predicates: b.predicates,
+            ..b
         },
         Kind::Predicate => Draft {
-            from: b.from,
             len,
-            constants: b.constants,
-            compounds: b.compounds,
             predicates: count,
+            ..b
         },
     }
 }
@@ -127,9 +121,9 @@ pub fn symbol(
     requires len_bound { (b.len ≤ 1020) × (w.at + w.len ≤ length text.now) × (w.at < 65536) × (w.len < 256) }
     ensures { Adds text.now out.old out.new starts.old lens.old heads.old nexts.old starts.new lens.new heads.new nexts.new b w.kind (word text.now w.at w.len) result }
 {
-    let kind = w.kind;
+    let Named { kind, at, len } = w;
     let c = section(b, kind);
-    let number = number_in(text, starts, lens, heads, nexts, c, w.at, w.len);
+    let number = number_in(text, starts, lens, heads, nexts, c, at, len);
     let d = next(c, number);
     let more = put_symbol(out, b.from + b.len, kind, number);
     counted(b, kind, d.count, b.len + more)
@@ -142,10 +136,7 @@ pub fn variable(out: &mut [u8], b: Draft, v: usize) -> Draft
 {
     put3(out, b.from + b.len, 1, v);
     Draft {
-        from: b.from,
         len: b.len + 3,
-        constants: b.constants,
-        compounds: b.compounds,
-        predicates: b.predicates,
+        ..b
     }
 }

@@ -25,5 +25,5 @@ pub fn raise(out: &mut [u8], at: usize)
     requires { (at < length out.old) × (get_or out.old at 0 < 255) }
     ensures { out.new ≡ set out.old at (get_or out.old at 0 + 1) }
 {
-    out[at] = out[at] + 1;
+    out[at] += 1;
 }

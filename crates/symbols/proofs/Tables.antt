@@ -5,7 +5,6 @@ use mathlib.Core.List.{List}
 use native.Mathlib.Omega.{arith}
 use lib.ListN.{length}
 use lib.Dec.{ltb}
-use borrow.Author.Tests.{lt-ltb, le-ltb}
 use borrow.Rule.Slice.PartMut.{mid_of, put_mid}
 use Rattle.terms.specs.When.{◌⇒◌∣◌}
 use Rattle.terms.specs.Cases.{cases}
@@ -14,12 +13,6 @@ use Rattle.nametable.specs.Table.{Table, Room, Numbered}
 use Rattle.symbols.specs.declared.Section.{Section}
 use Rattle.symbols.specs.Sections.{part, Holds, next, Apart, Numbers}
 use Rattle.symbols.proofs.Parts.{put-part, put_other, part_length, put-length}
-
-pub next_known : (c : Section) (r : ℕ) → r < c.count → c ≡ next c r
-next_known c r l = rw (lt-ltb r c.count l) refl
-
-pub next-new : (c : Section) (r : ℕ) → c.count ≤ r → record { from = c.from; room = c.room; heads = c.heads; count = c.count + 1 } ≡ next c r
-next-new c r l = rw (le-ltb r c.count l) refl
 
 module _ {text starts lens heads nexts : List ℕ} {c : Section} {names : List (List ℕ)} (h : Holds text starts lens heads nexts c names) (e l : ℕ) (p : c.from + c.room ≡ e) (q : c.heads + 4096 ≡ l) where
   same-room : e - c.from ≡ c.room

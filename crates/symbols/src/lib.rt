@@ -25,10 +25,8 @@ pub fn next(section: Section, number: usize) -> Section
         return section;
     }
     Section {
-        from: section.from,
-        room: section.room,
-        heads: section.heads,
         count: section.count + 1,
+        ..section
     }
 }
 
