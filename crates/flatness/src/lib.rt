@@ -12,7 +12,8 @@ use records::{byte_limit, check_book, check_query, code_base};
 
 mod counting;
 
-// What the flat check of a book answers: code, place, clauses, and how many distinct predicates and constants the book has.
+// What the flat check of a book answers: code, place, clauses, and how many distinct predicates and constants the book has. The code stays a number, as
+// format::Check's does.
 #[derive(Clone, Copy)]
 pub struct FlatBook {
     pub code: u8,
