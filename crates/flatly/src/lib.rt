@@ -13,18 +13,14 @@ pub fn book_number(r: FlatBook) -> u64
     ensures { result ≡ flat_book_number r }
 {
     let counts = r.predicates as u32 + 65536 * r.constants as u32;
-    if r.code == 0 {
-        return pack(r.code, r.clauses as u32, counts);
-    }
-    pack(r.code, r.place as u32, counts)
+    let first = if r.code == 0 { r.clauses } else { r.place };
+    pack(r.code, first as u32, counts)
 }
 
 pub fn query_number(c: Check) -> u64
     requires { QueryNarrow c }
     ensures { result ≡ flat_query_number c }
 {
-    if c.code == 0 {
-        return pack(c.code, c.count as u32, 0);
-    }
-    pack(c.code, c.place as u32, 0)
+    let first = if c.code == 0 { c.count } else { c.place };
+    pack(c.code, first as u32, 0)
 }

@@ -5,6 +5,7 @@ use native.Mathlib.Nat.{zero-add}
 use native.Mathlib.Decide.{ℕ_discrete}
 use borrow.Author.Tests.{eq-eqb, ne_eqb, eqb-true, eqb-false}
 use mathlib.Core.Path.{◌≡◌, refl, sym as inv, ap, subst, ◌∙◌}
+use mathlib.Core.Bool.{Bool, true, false}
 use mathlib.Core.Logic.{◌↔◌, ◌⊎◌, inl, inr}
 use mathlib.Core.List.{List, [], ◌∷◌, ◌++◌}
 use lib.ListN.{length, get_or, set, drop, length-drop}
@@ -25,7 +26,13 @@ use Rattle.format.proofs.Encoded.{Encoded, encoded}
 use Rattle.flatness.proofs.Refusals.{one-row}
 use Rattle.flatness.specs.Counts.{Apart, Count, node_constants, constants_in}
 use Rattle.flatness.proofs.CountLaws.{numbers}
-use Rattle.flatness.specs.Marks.{number_of, numbers_of, fresh, new_at, marked, new_ones}
+use Rattle.flatness.specs.declared.counting.Counted.{Counted}
+use Rattle.flatness.specs.declared.counting.Counted.TheVariants.{Constants, Predicates}
+use Rattle.flatness.specs.Marks.{kind_of, number_of, numbers_of, fresh, new_at, marked, new_ones}
+
+pub two_or_four : (what : Counted) → (kind_of what ≡ 2) ⊎ (kind_of what ≡ 4)
+two_or_four Constants = inl refl
+two_or_four Predicates = inr refl
 
 -- How many are new is how many are distinct.
 
@@ -162,17 +169,26 @@ pub ruleset counts = (counting-body, counting-next, counting-end)
 
 -- What `mark` does, by its tests.
 module _ (kind : ℕ) (s : List ℕ) (at : ℕ) where
-  pub other-kind : (m : Memory) → (get_or s at 0 ≡ kind → ⊥) → (0 ≡ new_ones kind m s at) × (m ≡ marked kind m s at)
-  unfolding new_ones marked new_at
+  -- what it answers, as what is counted
+  pub one_new : (m : Memory) (b : Bool) → b ≡ new_at kind m s at → b ≡ true → 1 ≡ new_ones kind m s at
+  unfolding new_ones
+  one_new m b e t = simp (← e, t)
+
+  pub none_new : (m : Memory) (b : Bool) → b ≡ new_at kind m s at → b ≡ false → 0 ≡ new_ones kind m s at
+  unfolding new_ones
+  none_new m b e t = simp (← e, t)
+
+  pub other-kind : (m : Memory) → (get_or s at 0 ≡ kind → ⊥) → (false ≡ new_at kind m s at) × (m ≡ marked kind m s at)
+  unfolding marked new_at
   other-kind m n = simp (ne_eqb (get_or s at 0) kind n) (refl, refl)
 
   module _ (e : get_or s at 0 ≡ kind) (n : ℕ) (is : n ≡ number_at s (at + 1)) where
-    pub not_new : (m : Memory) → (m n ≡ 0 → ⊥) → (0 ≡ new_ones kind m s at) × (m ≡ marked kind m s at)
-    unfolding new_ones marked new_at
+    pub not_new : (m : Memory) → (m n ≡ 0 → ⊥) → (false ≡ new_at kind m s at) × (m ≡ marked kind m s at)
+    unfolding marked new_at
     not_new m o = simp (eq-eqb (get_or s at 0) kind e, inv is, ne_eqb (m n) 0 o) (refl, refl)
 
-    pub new-here : (table : List ℕ) → n < length table → get_or table n 0 ≡ 0 → (1 ≡ new_ones kind (recalled table) s at) × (recalled (set table n 1) ≡ marked kind (recalled table) s at)
-    unfolding new_ones marked new_at
+    pub new-here : (table : List ℕ) → n < length table → get_or table n 0 ≡ 0 → (true ≡ new_at kind (recalled table) s at) × (recalled (set table n 1) ≡ marked kind (recalled table) s at)
+    unfolding marked new_at
     new-here table l o = simp (eq-eqb (get_or s at 0) kind e, inv is, eq-eqb (get_or table n 0) 0 o) (refl, recalled-set table n 0 l)
 
   -- the body of a record of such a kind has a number

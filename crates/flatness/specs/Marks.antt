@@ -6,6 +6,13 @@ use Rattle.format.specs.declared.Record.TheVariants.{Variable, Constant, Compoun
 use Rattle.format.specs.Reading.{number_at}
 use Rattle.format.specs.Format.{record_kind, encode}
 use Rattle.format.specs.Arities.{Memory, meet}
+use Rattle.flatness.specs.declared.counting.Counted.{Counted}
+use Rattle.flatness.specs.declared.counting.Counted.TheVariants.{Constants, Predicates}
+
+-- the kind of the records that have their numbers
+abbrev pub kind_of : Counted → ℕ
+kind_of Constants = 2
+kind_of Predicates = 4
 
 -- the number of a constant or of a formula's predicate
 abbrev pub number_of : Record → ℕ

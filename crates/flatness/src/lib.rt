@@ -1,17 +1,19 @@
 // The flat profile (document 02, C-20): books and queries of "constants and variables only", checked and counted.
 #![tactic(auto)]
 
-ghost use Rattle.std.specs.Prelude.{◌≡◌, ◌≤◌, length};
+ghost use Rattle.std.specs.Prelude.{◌≡◌, ◌<◌, ◌≤◌, length, MatchOption};
+ghost use Rattle.format.specs.Reading.{code_base, byte_limit};
 ghost use Rattle.flatness.specs.Profile.{compound_from, allowed_up_to, flat_check_of, book_flat, query_flat, flat_book_of};
 
-use crate::counting::count;
-use format::Check;
+use crate::counting::{Counted, count};
+use format::{Check, Form};
 use records::record::body_length;
-use records::{check_book, check_query};
+use records::{byte_limit, check_book, check_query, code_base};
 
 mod counting;
 
-// What the flat check of a book answers: code, place, clauses, and how many distinct predicates and constants the book has.
+// What the flat check of a book answers: code, place, clauses, and how many distinct predicates and constants the book has. The code stays a number, as
+// format::Check's does.
 #[derive(Clone, Copy)]
 pub struct FlatBook {
     pub code: u8,
@@ -21,20 +23,20 @@ pub struct FlatBook {
     pub constants: usize,
 }
 
-// Where the first compound record below a place is; that place where there is none.
-fn first_compound(bytes: &[u8], end: usize) -> usize
+// Where the first compound record below a place is.
+fn first_compound(bytes: &[u8], end: usize) -> Option<usize>
     requires { (end ≤ length bytes.now) × (length bytes.now ≤ 32768) }
-    ensures { result ≡ compound_from (length bytes.now) bytes.now 0 end }
+    ensures { MatchOption result (end ≡ compound_from (length bytes.now) bytes.now 0 end) (λ at. (at < end) × (at ≡ compound_from (length bytes.now) bytes.now 0 end)) }
 {
     let mut at = 0;
     while at < end {
         let kind = bytes[at];
         if kind == 3 {
-            return at;
+            return Some(at);
         }
-        at = at + 1 + body_length(kind);
+        at += 1 + body_length(kind);
     }
-    end
+    None
 }
 
 // How far the plain check found the kinds of records allowed.
@@ -53,30 +55,31 @@ fn allowed_up_to(base: u8, plain: Check, size: usize) -> usize
 
 // "8 for the book and 18 for the query at the compound record, straight after the kind test": a compound record that the plain check
 // came to, and did not refuse for its kind.
-fn flat_of(base: u8, limit: usize, plain: Check, bytes: &[u8]) -> Check
-    requires base_bound { (base ≤ 10) × (limit ≤ 32768) }
-    requires bytes_in_bounds { length bytes.now ≤ limit → allowed_up_to base plain (length bytes.now) ≤ length bytes.now }
-    ensures { result ≡ flat_check_of base limit plain bytes.now }
+fn flat_of(form: Form, plain: Check, bytes: &[u8]) -> Check
+    requires { length bytes.now ≤ byte_limit form → allowed_up_to (code_base form) plain (length bytes.now) ≤ length bytes.now }
+    ensures { result ≡ flat_check_of (code_base form) (byte_limit form) plain bytes.now }
 {
-    if limit < bytes.len() {
+    if byte_limit(form) < bytes.len() {
         return plain;
     }
+    let base = code_base(form);
     let end = allowed_up_to(base, plain, bytes.len());
-    let place = first_compound(bytes, end);
-    if place < end {
-        return Check {
-            code: base + 8,
-            place,
-            count: 0,
-        };
+    match first_compound(bytes, end) {
+        Some(place) => {
+            Check {
+                code: base + 8,
+                place,
+                count: 0,
+            }
+        }
+        None => plain,
     }
-    plain
 }
 
 fn book_flat(book: &[u8]) -> Check
     ensures { result ≡ book_flat book.now }
 {
-    flat_of(0, 32768, check_book(book), book)
+    flat_of(Form::Book, check_book(book), book)
 }
 
 pub fn check_flat_book(book: &[u8]) -> FlatBook
@@ -88,8 +91,8 @@ pub fn check_flat_book(book: &[u8]) -> FlatBook
             code: found.code,
             place: found.place,
             clauses: found.count,
-            predicates: count(4, book),
-            constants: count(2, book),
+            predicates: count(Counted::Predicates, book),
+            constants: count(Counted::Constants, book),
         };
     }
     FlatBook {
@@ -107,7 +110,7 @@ pub fn check_flat_query(book: &[u8], query: &[u8]) -> Check
 {
     let found = book_flat(book);
     if found.code == 0 {
-        return flat_of(10, 16387, check_query(book, query), query);
+        return flat_of(Form::Query, check_query(book, query), query);
     }
     found
 }

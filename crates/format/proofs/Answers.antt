@@ -20,7 +20,6 @@ use Rattle.format.specs.Reading.{byte_limit, count_of, refused, judge, whole, fi
 use Rattle.format.specs.Format.{encode, Bytes}
 use Rattle.format.specs.Arities.{Use, uses_of, OneArity, Memory, nothing_met, recall}
 use Rattle.format.specs.Faulty.{pair, Complete, Fails, missing, Faulty, over_long, at_place}
-use Rattle.format.proofs.Tests.{zero_one}
 use Rattle.format.proofs.Going.{Going, going_start, going-bad, going_end, going-met}
 use Rattle.format.proofs.Tested.{Looked, looked-is, looked}
 use Rattle.format.proofs.Beginnings.{reach, Reads, beginning-reads, complete-whole}
@@ -84,7 +83,7 @@ module _ (form : Form) (us : List Use) (one : OneArity us) (s : List ℕ) (bytes
 
   said-end : OfEnd form before s bytes short (Refused form us s)
   said-end h e w =
-      let z : Complete form h.rs → ⊥ = λ c. let q = (complete-whole form h.rs h.reads).0 c in zero_one (cc) in
+      let z : Complete form h.rs → ⊥ = λ c. let q = (complete-whole form h.rs h.reads).0 c in cc in
       faulty-here (length s) Kind h (missing (drop_of_length-le s (le_refl (length s))) z refl)
 
 -- The two, for an input of any length.

@@ -18,7 +18,6 @@ use Rattle.format.specs.declared.Record.TheVariants.{Variable, Constant, Compoun
 use Rattle.format.specs.Reading.{allowed, in_range, is_in_order, after, whole, start}
 use Rattle.format.specs.Format.{record_kind, node_records, Terms, terms_none, terms_constant, formula, AreFormulas}
 use Rattle.format.specs.Faulty.{Complete, Beginning, KindAllowed}
-use Rattle.format.proofs.Tests.{zero_one}
 use Rattle.format.proofs.Items.{NarrowRecord, Kinded, k1, k2, k3, k4, k5, k6, k7, allowed-is, allowed-kinded}
 use Rattle.format.proofs.Numbering.{Ordered}
 use Rattle.format.proofs.Owed.{MayStand, Follows, Owed, start-complete, owed-between}
@@ -176,4 +175,4 @@ module _ (form : Form) (rs : List Record) where
         let h = whole_is (reach start rs) (complete-whole.0 c) in
         let e : allowed form (reach start rs) k ≡ false = simp (h.0, h.1, h.2) in
         let q = (kind-allowed k).0 a in
-        zero_one (cc)
+        cc

@@ -23,7 +23,7 @@ use Rattle.format.specs.Format.{record_kind, encode_record, Bytes}
 use Rattle.format.specs.Arities.{Use, uses_of, OneArity, Memory, nothing_met, recall}
 use Rattle.format.specs.ArityLaws.{arity_iff}
 use Rattle.format.specs.Faulty.{pair, KindAllowed, InRange, Stands, Fails, missing, of_kind, of_cut, of_range, of_size, of_number, of_arity}
-use Rattle.format.proofs.Tests.{zero_one, and_both}
+use Rattle.format.proofs.Tests.{and_both}
 use Rattle.format.proofs.Items.{NarrowRecord, Decoded, decode, allowed-is, allowed-kinded}
 use Rattle.format.proofs.Encoded.{head_of, Encoded, encoded}
 use Rattle.format.proofs.Tested.{Tested, range_failed, size_failed, number_failed, arity_failed, Looked, kind_failed, cut_failed, whole_record}
@@ -97,10 +97,10 @@ range_iff End = (λ i. refl, λ e. tt)
 
 -- a test that says whether P holds
 not-true : {P : Type 0} (t : Bool) → P ↔ (t ≡ true) → (P → ⊥) ↔ (t ≡ false)
-not-true t i = (λ n. cases t (λ e. absurd (n (i.1 e))) (λ e. e), λ e p. let q = i.0 p in zero_one (cc))
+not-true t i = (λ n. cases t (λ e. absurd (n (i.1 e))) (λ e. e), λ e p. let q = i.0 p in cc)
 
 not-false : {P : Type 0} (t : Bool) → P ↔ (t ≡ false) → (P → ⊥) ↔ (t ≡ true)
-not-false t i = (λ n. cases t (λ e. e) (λ e. absurd (n (i.1 e))), λ e p. let q = i.0 p in zero_one (cc))
+not-false t i = (λ n. cases t (λ e. e) (λ e. absurd (n (i.1 e))), λ e p. let q = i.0 p in cc)
 
 -- a whole record at a place
 pub looked_record : (form : Form) (state : State) (m : Memory) (s : List ℕ) (at : ℕ) (r : Record) (l : List ℕ) (j : Result State Fault) → Encoded s at r l → allowed form state (record_kind r) ≡ true →

@@ -16,7 +16,7 @@ use Rattle.format.specs.declared.Record.{Record}
 use Rattle.format.specs.declared.Record.TheVariants.{Variable, Constant, Compound, Formula, Clause, Goal, End}
 use Rattle.format.specs.Reading.{opens, allowed, body_length, number_at, record_at}
 use Rattle.format.specs.Format.{record_kind, encode_record, Bytes}
-use Rattle.format.proofs.Tests.{zero_one, and_both}
+use Rattle.format.proofs.Tests.{and_both}
 
 -- the numbers of a record fit their bytes
 abbrev pub NarrowRecord : Record → Type 0
@@ -61,14 +61,14 @@ open_by : (form f : Form) (state : State) (k : ℕ) (a b : Bool) → form ≡ f 
     eqb k 5 ≡ a → eqb k 7 ≡ b → opens f k ≡ true → Allowed form state k
 open_by form Book state k true b f t n c p q e = as_clause t n c f (eqb-true k 5 p)
 open_by form Book state k false true f t n c p q e = as_end t n c f (eqb-true k 7 q)
-open_by form Book state k false false f t n c p q e = absurd (zero_one (let z : false ≡ true = simp (p, q) at e in cc))
+open_by form Book state k false false f t n c p q e = absurd ((let z : false ≡ true = simp (p, q) at e in cc))
 open_by form Query state k a b f t n c p q e = as_goal t n c f (eqb-true k 6 e)
 
 allowed-by : (form : Form) (state : State) (k : ℕ) (a b c : Bool) → ltb 0 state.terms ≡ a → ltb 0 state.formulas ≡ b → state.closed ≡ c →
     (a ⇒ leb 1 k && leb k 3 ∣ b ⇒ eqb k 4 ∣ c ⇒ false ∣ opens form k) ≡ true → Allowed form state k
 allowed-by form state k true b c p q r e = as_term (ltb-true _ _ p) (leb-true 1 k (and_both (leb 1 k) (leb k 3) e).0) (leb-true k 3 (and_both (leb 1 k) (leb k 3) e).1)
 allowed-by form state k false true c p q r e = as_formula (omega (arith, ltb-false 0 state.terms p)) (ltb-true _ _ q) (eqb-true k 4 e)
-allowed-by form state k false false true p q r e = absurd (zero_one (cc))
+allowed-by form state k false false true p q r e = absurd (cc)
 allowed-by form state k false false false p q r e =
     open_by form form state k _ _ refl (omega (arith, ltb-false 0 state.terms p)) (omega (arith, ltb-false 0 state.formulas q)) r refl refl e
 

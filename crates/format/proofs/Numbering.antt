@@ -129,7 +129,7 @@ not-high u v e q = cases (ltb u v) high (λ p. ltb-false u v p)
 
 ordered-number : (u : ℕ) (e : Expr) → number (range 0 u) e ≡ e → Ordered u e
 ordered-number u [] q = tt
-ordered-number u (sym s ∷ e) q = ordered-number u e (cc)
+ordered-number u (sym s ∷ e) q = ordered-number u e cc
 ordered-number u (var v ∷ e) q = let h = not-high u v e q in let n = number-var u v e h in (h, ordered-number (next_unused u v) e (cc))
 
 pub ordered : (g : Goal) → Numbered g → Ordered 0 (flat g)

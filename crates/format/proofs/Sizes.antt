@@ -18,7 +18,6 @@ use Rattle.format.specs.declared.Record.TheVariants.{Variable, Constant, Compoun
 use Rattle.format.specs.Reading.{node_limit, variable_limit, allowed, is_in_size, is_in_order, after, start}
 use Rattle.format.specs.Format.{record_kind, node_record}
 use Rattle.format.specs.Faulty.{pair, SizePassed, clause_passed, node_passed, variable_passed, NextUnused, NumberAbove, WithinSizes}
-use Rattle.format.proofs.Tests.{zero_one}
 use Rattle.format.proofs.Items.{NarrowRecord, Allowed, allowed-is}
 use Rattle.format.proofs.Stepping.{for-term, for-formula, for-book}
 use Rattle.format.proofs.Beginnings.{reach, Reads, reads-front}
@@ -67,8 +66,8 @@ module _ (form : Form) (rs : List Record) (state : State) (k : Told form rs stat
   size_passed (Clause m) a n e =
       let b = (for-book form state 5 a (omega arith) (λ z. omega arith)).3 in
       clause_passed m b refl (omega (arith, k.clauses b, ltb-false state.clauses 512 e))
-  size_passed (Goal m) a n e = absurd (zero_one (cc))
-  size_passed End a n e = absurd (zero_one (cc))
+  size_passed (Goal m) a n e = absurd (cc)
+  size_passed End a n e = absurd (cc)
 
   pub size_iff : (r : Record) → allowed form state (record_kind r) ≡ true → NarrowRecord r → SizePassed form rs r ↔ (is_in_size form state r ≡ false)
   size_iff r a n = (passed-size r, size_passed r (allowed-is form state (record_kind r) a) n)
@@ -99,12 +98,12 @@ module _ (form : Form) (rs : List Record) (state : State) (k : Told form rs stat
         unused = record { unused = λ i. omega (arith, (k.variables state.variables).0 i); used = λ w h. (k.variables w).1 h };
         above = leb-false v state.variables e;
       }
-  not-in_order (Constant c) a e = absurd (zero_one (cc))
-  not-in_order (Compound f n) a e = absurd (zero_one (cc))
-  not-in_order (Formula p n) a e = absurd (zero_one (cc))
-  not-in_order (Clause n) a e = absurd (zero_one (cc))
-  not-in_order (Goal n) a e = absurd (zero_one (cc))
-  not-in_order End a e = absurd (zero_one (cc))
+  not-in_order (Constant c) a e = absurd (cc)
+  not-in_order (Compound f n) a e = absurd (cc)
+  not-in_order (Formula p n) a e = absurd (cc)
+  not-in_order (Clause n) a e = absurd (cc)
+  not-in_order (Goal n) a e = absurd (cc)
+  not-in_order End a e = absurd (cc)
 
   pub number_iff : (r : Record) → allowed form state (record_kind r) ≡ true → NumberAbove rs r ↔ (is_in_order state r ≡ false)
   number_iff r a = (above r, not-in_order r (allowed-is form state (record_kind r) a))
@@ -142,4 +141,4 @@ module _ (form : Form) where
           let g = reads-front form start a (r ∷ b) (subst (Reads form start) q f) in
           let t = sized-at start a r b (subst (Sized form start) q s) in
           let u = (size_iff form a (reach start a) (told form a g.0) r g.1.0.kind g.1.0.narrow).0 p in
-          zero_one (cc)
+          cc

@@ -19,7 +19,7 @@ use Rattle.format.specs.declared.Record.TheVariants.{Variable, Constant, Compoun
 use Rattle.format.specs.Reading.{opens, allowed, in_range, is_in_order, next_unused, after, whole}
 use Rattle.format.specs.Format.{record_kind, node_records, Terms, terms_none, terms_var, terms_constant, terms_compound, IsFormula, formula, AreFormulas, book_records}
 use Rattle.format.specs.Faulty.{FormedClauses, Formed}
-use Rattle.format.proofs.Tests.{zero_one, and_both}
+use Rattle.format.proofs.Tests.{and_both}
 use Rattle.format.proofs.Items.{Allowed, as_term, as_formula, as_clause, as_end, as_goal, allowed-is}
 use Rattle.format.proofs.Numbering.{Ordered, ordered}
 use Rattle.format.proofs.Owed.{MayStand, Follows, Owed, Stepped, FormulasOwed, formulas-owed, owed-term, owed-formula, owed-between, clause-complete, end-complete, goal-complete}
@@ -57,8 +57,8 @@ module _ (form : Form) (state : State) (k : ℕ) where
 
 whole_by : (state : State) (a b : Bool) → ltb 0 state.terms ≡ a → ltb 0 state.formulas ≡ b → (a ⇒ false ∣ b ⇒ false ∣ state.closed) ≡ true →
     (state.terms ≡ 0) × (state.formulas ≡ 0) × (state.closed ≡ true)
-whole_by state true b p q x = absurd (zero_one (cc))
-whole_by state false true p q x = absurd (zero_one (cc))
+whole_by state true b p q x = absurd (cc)
+whole_by state false true p q x = absurd (cc)
 whole_by state false false p q x = (omega (arith, ltb-false 0 state.terms p), omega (arith, ltb-false 0 state.formulas q), x)
 
 pub whole_is : (state : State) → whole state ≡ true → (state.terms ≡ 0) × (state.formulas ≡ 0) × (state.closed ≡ true)

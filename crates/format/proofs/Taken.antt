@@ -18,7 +18,7 @@ use Rattle.format.specs.declared.Fault.TheVariants.{Kind, Cut, Range, Size, Numb
 use Rattle.std.specs.Prelude.{Ok, Err}
 use Rattle.format.specs.Reading.{code_base, fault_number, allowed, body_length, record_at, in_range, is_in_size, is_in_order, next_unused, after, judge_record, judge, Small}
 use Rattle.format.specs.Arities.{Memory, keeps}
-use Rattle.format.proofs.Tests.{zero_one, and_both}
+use Rattle.format.proofs.Tests.{and_both}
 
 pub base-small : (form : Form) → code_base form ≤ 10
 base-small Book = zero-le
@@ -37,7 +37,7 @@ pick_small true a b k p q = p
 pick_small false a b k p q = q
 
 no_fault : {fault : Fault} (next : State) → Err fault ≡ Ok next → ⊥
-no_fault next e = zero_one (cc)
+no_fault next e = cc
 
 -- a record that was taken passed each test, in whatever order they are made
 pub record Taken (form : Form) (state : State) (m : Memory) (item : Record) (next : State) : Type 0 where

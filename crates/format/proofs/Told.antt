@@ -20,7 +20,6 @@ use Rattle.format.specs.declared.Record.TheVariants.{Variable, Constant, Compoun
 use Rattle.format.specs.Reading.{is_in_order, next_unused, after_node, after, start}
 use Rattle.format.specs.Format.{node_record, node_records}
 use Rattle.format.specs.Faulty.{EndsIn, in_clause, in_goal, clause_count}
-use Rattle.format.proofs.Tests.{zero_one}
 use Rattle.format.proofs.Items.{allowed-is}
 use Rattle.format.proofs.Numbering.{unused-same, unused-other}
 use Rattle.format.proofs.Owed.{MayStand}
@@ -167,7 +166,7 @@ told-next form rs state (Clause n) k f =
     (λ h. in_clause rs n refl)
 told-next form rs state (Goal n) k f =
     told-opened form rs (after state (Goal n)) (Goal n) (since-append [] rs (Goal n ∷ [])) refl refl
-    (λ b. let q = (for-query form state 6 (allowed-is form state 6 f.kind) refl).3 in absurd (zero_one (cc)))
+    (λ b. let q = (for-query form state 6 (allowed-is form state 6 f.kind) refl).3 in absurd (cc))
     (λ h. in_goal rs n refl)
 told-next form rs state End k f =
     told-opened form rs (after state End) End (since-append [] rs (End ∷ [])) refl refl

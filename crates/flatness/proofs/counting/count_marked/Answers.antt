@@ -1,27 +1,31 @@
-use borrow.Author.Rules.{rules}
+use Prim.Native.Nat.{◌+◌}
 use native.Mathlib.Omega.{arith}
-use Rattle.format.specs.Arities.{recalled}
-use Rattle.flatness.proofs.Marking.{counting-start, counting-body, counting-next, counting-end, counts, new-one}
+use mathlib.Core.Path.{◌≡◌}
+use Rattle.flatness.proofs.Marking.{two_or_four, counting-start, counting-body, counting-next, counting-end, one_new, none_new}
 use Rattle.flatness.proofs.counting.count_marked.Goals as goal
+use Rattle.flatness.proofs.counting.count_marked.Goals.{then-mark, else-mark}
 
 pub loop-at-init : goal.loop-at-init
-loop-at-init c = (counting-start _ _ _ c.requires.table_len.1 c.requires.image.records c.requires.image.bytes, search rules, search rules, search rules, search rules)
+loop-at-init c = counting-start _ _ _ c.requires.unmarked c.requires.image.records c.requires.image.bytes
 
-pub mark-count-requires : goal.mark-count-requires
-mark-count-requires c = let l = c.loop-at in record { fact = l.invariant.3; at_in_bounds = (counting-body _ _ _ _ _ l.invariant.0 c.loop-at-test.true, l.invariant.1) }
-
-pub overflow_add-count : goal.overflow_add-count
-overflow_add-count c = let l = c.loop-at in record { fits = omega (arith, l.invariant.0.few, new-one c.args.kind (recalled l.table) c.args.bytes.now l.at, c.mark-count.ensures.count, l.invariant.4) }
+pub mark-requires : goal.mark-requires
+mark-requires c = counting-body _ _ _ _ _ c.loop-at.invariant c.loop-at-test.true
 
 pub next_at-at-requires : goal.next_at-at-requires
-next_at-at-requires c = search counts
+next_at-at-requires c = counting-body _ _ _ _ _ c.loop-at.invariant c.loop-at-test.true
 
 pub loop-at-preserved : goal.loop-at-preserved
 loop-at-preserved c =
     let l = c.loop-at in
-    let m = c.mark-count in
-    let t = c.loop-at-test.true in
-    (counting-next _ _ _ _ _ _ l.at _ l.invariant.0 l.invariant.3 t m.ensures.count m.ensures.table c.next_at-at.ensures, search rules, l.invariant.2, l.invariant.3, omega (arith, c.next_at-at.ensures, counting-body _ _ _ _ _ l.invariant.0 t, l.invariant.2))
+    let m = c.mark.ensures in
+    let none : l.count + 0 ≡ l.count = omega arith in
+    elim c.if-mark.branch [
+      | then-mark w ↦
+          rw w.count-is (counting-next _ _ _ _ _ 1 l.at _ l.invariant (two_or_four c.args.what) c.loop-at-test.true (one_new _ _ _ _ _ m.new w.if-mark.true) m.table c.next_at-at.ensures)
+      | else-mark w ↦
+          rw w.count-is
+          (rw none at (counting-next _ _ _ _ _ 0 l.at _ l.invariant (two_or_four c.args.what) c.loop-at-test.true (none_new _ _ _ _ _ m.new w.if-mark.false) m.table c.next_at-at.ensures))
+    ]
 
 pub returns : goal.returns
-returns c = let l = c.loop-at in counting-end _ _ _ _ _ l.invariant.0 c.loop-at-test.false
+returns c = counting-end _ _ _ _ _ c.loop-at.invariant c.loop-at-test.false

@@ -1,2 +1,0 @@
--- What the proofs of the entries share.
-pub mod Sums
