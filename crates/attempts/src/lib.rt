@@ -15,8 +15,8 @@ use crate::passing::{hopeful, lead};
 use bounds::Weight;
 use heapgoals::{Standing, clear};
 use matching::binding::undo;
-use matching::fitting::{Fitted, fit};
-use matching::unifying::Trial;
+use matching::fitting::fit;
+use matching::unifying::{Trial, Tried};
 use picking::append;
 use words::lists::{find, find_next};
 use words::rows::CELLS;
@@ -80,12 +80,12 @@ fn try_rows(
         s.at,
         s.top,
     ) {
-        Fitted::Fits(count, size) => Attempt::Fits(count, size),
-        Fitted::Clash(count) => {
+        Tried::Fits(count, size) => Attempt::Fits(count, size),
+        Tried::Clash(count) => {
             release(cells, rows, s.base, count);
             Attempt::Clash
         }
-        Fitted::Tired(count) => {
+        Tried::Tired(count) => {
             release(cells, rows, s.base, count);
             Attempt::Tired
         }

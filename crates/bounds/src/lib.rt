@@ -144,9 +144,8 @@ fn growth(
 {
     let mut nodes = 1;
     let mut variables = 0;
-    for i in 0..count {
-        let v = get(trail, i);
-        let p = get(cells, v) - 1;
+    for &v in &trail[..count] {
+        let p = get(cells, usize::from(v)) - 1;
         let size = row_size(heap, cells, levels, p, limit)?;
         nodes = nodes.max(size.nodes);
         variables = variables.max(size.variables);

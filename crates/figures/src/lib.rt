@@ -1,7 +1,7 @@
 // What a clause's body adds to its head depends on the clause alone: it is found once, and kept in two words to a clause.
 #![tactic(auto)]
 
-ghost use Rattle.std.specs.Prelude.{◌≡◌, ◌+◌, ◌*◌, ◌<◌, ◌≤◌, length, get_or, IfSome};
+ghost use Rattle.std.specs.Prelude.{◌≡◌, ◌+◌, ◌*◌, ◌<◌, ◌≤◌, length, get_or, IfSome, IfNone};
 ghost use Rattle.search.specs.Next.{Clause};
 ghost use Rattle.words.specs.Held.{ClauseIn};
 ghost use Rattle.figures.specs.Figures.{figure_in, Leads, FigureOf, Slot, KeptAt};
@@ -72,12 +72,10 @@ fn packed(x: Figure) -> Words
     }
 }
 
-fn kept(figures: &[u16], i: usize) -> Figure
-    requires { (length figures.now ≡ 1024) × (i < 512) }
-    ensures { result ≡ figure_in (get_or figures.now (2 * i) 0) (get_or figures.now (2 * i + 1) 0) }
+// The figure that two words say, the second of which is not 0.
+fn unpacked(fresh: usize, rest: usize) -> Figure
+    ensures { result ≡ figure_in fresh rest }
 {
-    let fresh = get(figures, 2 * i);
-    let rest = get(figures, 2 * i + 1);
     let first = rest / 128 % 256;
     if fresh == LAVISH {
         return Figure {
@@ -96,6 +94,18 @@ fn kept(figures: &[u16], i: usize) -> Figure
     }
 }
 
+fn kept(figures: &[u16], i: usize) -> Option<Figure>
+    requires { (length figures.now ≡ 1024) × (i < 512) }
+    ensures found { IfSome result (λ r. (get_or figures.now (2 * i + 1) 0 ≡ 0 → ⊥) × (r ≡ figure_in (get_or figures.now (2 * i) 0) (get_or figures.now (2 * i + 1) 0))) }
+    ensures none { IfNone result (get_or figures.now (2 * i + 1) 0 ≡ 0) }
+{
+    let rest = get(figures, 2 * i + 1);
+    if rest == 0 {
+        return None;
+    }
+    Some(unpacked(get(figures, 2 * i), rest))
+}
+
 // Of the clause number i: as it is kept, or found and kept.
 pub fn figure_at(
     clause: &[u32],
@@ -107,10 +117,10 @@ pub fn figure_at(
     requires { (length figures.old ≡ 1024) × (i < 512) × ((c : Clause) × ClauseIn clause.now head bodies c) × Slot clause.now head bodies figures.old i }
     ensures { KeptAt clause.now head bodies figures.old i figures.new result }
 {
-    let at = 2 * i;
-    if get(figures, at + 1) != 0 {
-        return kept(figures, i);
+    if let Some(figure) = kept(figures, i) {
+        return figure;
     }
+    let at = 2 * i;
     let x = figure_of(clause, head, bodies);
     let words = packed(x);
     figures[at] = words.fresh as u16;

@@ -58,6 +58,16 @@ module _ {heap cells : List ℕ} (made : Made heap cells) {p q : ℕ} (r : SameR
   pub in_table : i < length cells
   in_table = omega (arith, same_number, (made.fits q r.inside).below kind)
 
+  module _ {row : ℕ} (is : bound cells i ≡ suc row) where
+    pub on_row : bound cells (get_or heap q 0 % 65536) ≡ suc row
+    on_row = ap (bound cells) (inv same_number) ∙ is
+
+    pub follow_row : SameRow heap cells p row
+    follow_row = same-bound made r kind row on_row
+
+  pub follow_unbound : bound cells i ≡ 0 → Followed heap cells p q
+  follow_unbound z = record { row = r; stops = λ k. ap (bound cells) (inv same_number) ∙ z }
+
   module _ {b : ℕ} (is : b ≡ get_or cells i 0) where
     there : bound cells (get_or heap q 0 % 65536) ≡ b
     there = ap (bound cells) (inv same_number) ∙ inv is

@@ -2,9 +2,9 @@
 // node. The table has for each variable the position after that of its row, or 0.
 #![tactic(auto)]
 
-ghost use Rattle.std.specs.Prelude.{◌≡◌, ◌+◌, ◌%◌, ◌<◌, length};
+ghost use Rattle.std.specs.Prelude.{◌≡◌, suc, ◌+◌, ◌%◌, ◌<◌, length, IfSome, IfNone};
 ghost use Rattle.words.specs.Word.{Valids};
-ghost use Rattle.heap.specs.Heap.{rows, Whole, Made};
+ghost use Rattle.heap.specs.Heap.{rows, Whole, bound, Made};
 ghost use Rattle.heap.specs.Following.{Followed};
 
 use words::{arity, get, word};
@@ -22,6 +22,15 @@ pub fn id(u: u32) -> usize
     (u % 65536) as usize
 }
 
+// The position of the row that the variable v is bound to; None where it is not bound.
+pub fn row_of(cells: &[u16], v: usize) -> Option<usize>
+    requires { v < length cells.now }
+    ensures bound { IfSome result (λ p. bound cells.now v ≡ suc p) }
+    ensures free { IfNone result (bound cells.now v ≡ 0) }
+{
+    get(cells, v).checked_sub(1)
+}
+
 // Past bound variables: the position of a symbol, or of a variable that is not bound.
 pub fn follow(heap: &[u32], cells: &[u16], p: usize) -> usize
     requires { Made heap.now cells.now × (p < length heap.now) }
@@ -33,11 +42,10 @@ pub fn follow(heap: &[u32], cells: &[u16], p: usize) -> usize
         if SYMBOL <= u {
             return at;
         }
-        let b = get(cells, id(u));
-        if b == 0 {
+        let Some(row) = row_of(cells, id(u)) else {
             return at;
-        }
-        at = b - 1;
+        };
+        at = row;
     }
 }
 

@@ -31,10 +31,7 @@ pub fn settled(levels: &[u16], w: Walk) -> Walk
     requires { (w.depth < 32768) × (2 * w.depth ≤ length levels.now) }
     ensures { result ≡ settled levels.now w }
 {
-    if 0 < w.due {
-        return w;
-    }
-    if w.depth == 0 {
+    if 0 < w.due || w.depth == 0 {
         return w;
     }
     let last = w.depth - 1;

@@ -77,7 +77,7 @@ module _ (t : Trial) {heap cells cells' stack : List ℕ} {p q : ℕ} {x : Pairs
   )
 
   -- the rows are made equal from the start
-  pub fit-again : (trail cells'' trail'' : List ℕ) (z : Tried) → Unified heap cells' trail t p q cells'' trail'' z → Unified heap cells trail t p q cells'' trail'' z
+  pub fit-again : (trail cells'' trail'' : List ℕ) (z : Tried ℕ) → Unified heap cells' trail t p q cells'' trail'' z → Unified heap cells trail t p q cells'' trail'' z
   fit-again trail cells'' trail'' (Tried.Fits count left) (more, kept, few, unseen) = (
     more-after left-same more,
     (λ before y. kept.0 before (extends-trailed m.extends y), kept.1, kept.2 ∙ m.extends.long),

@@ -22,8 +22,7 @@ use Rattle.matching.specs.Fitting.{Heavy, Hangs, HangsLast, Fitting}
 use Rattle.matching.specs.declared.pairs.Pairs.{Pairs}
 use Rattle.matching.specs.declared.unifying.Trial.{Trial}
 use Rattle.matching.specs.Heads.{Matching}
-use Rattle.matching.specs.declared.unifying.Tried.TheVariants as Tried
-use Rattle.matching.specs.declared.fitting.Fitted.{Fitted}
+use Rattle.matching.specs.declared.unifying.Tried.{Tried}
 
 row-long : {e : Expr} → Row 1 e → 1 ≤ length e
 row-long (row_var r) = omega arith
@@ -116,7 +115,7 @@ none-weighed {heap} {cells} {trail} {base} {count} none e = subst (λ r. Weighs 
 
 -- the rows are made equal from the start
 module _ (t : Trial) {heap cells cells' stack : List ℕ} {p q : ℕ} {x : Pairs} (m : Matching heap t.base cells p q cells' stack x) (trail cells'' trail'' : List ℕ) where
-  pub fitting-again : (z : Fitted) → Fitting heap cells' trail t p q cells'' trail'' z → Fitting heap cells trail t p q cells'' trail'' z
-  fitting-again (Fitted.Fits count size) (u, w) = (fit-again t m trail cells'' trail'' (Tried.Fits count 0) u, w)
-  fitting-again (Fitted.Clash count) u = fit-again t m trail cells'' trail'' (Tried.Clash count) u
-  fitting-again (Fitted.Tired count) u = fit-again t m trail cells'' trail'' (Tried.Tired count) u
+  pub fitting-again : (z : Tried (Option Weight)) → Fitting heap cells' trail t p q cells'' trail'' z → Fitting heap cells trail t p q cells'' trail'' z
+  fitting-again (Tried.Fits count size) (u, w) = (fit-again t m trail cells'' trail'' (Tried.Fits count 0) u, w)
+  fitting-again (Tried.Clash count) u = fit-again t m trail cells'' trail'' (Tried.Clash count) u
+  fitting-again (Tried.Tired count) u = fit-again t m trail cells'' trail'' (Tried.Tired count) u

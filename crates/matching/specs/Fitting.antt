@@ -10,8 +10,7 @@ use Rattle.matching.specs.Unifying.{Bound, Stepped, Unified}
 use Rattle.matching.specs.declared.pairs.Pairs.{Pairs}
 use Rattle.matching.specs.declared.unifying.Trial.{Trial}
 use Rattle.matching.specs.declared.unifying.Step.TheVariants as Step
-use Rattle.matching.specs.declared.unifying.Tried.TheVariants as Tried
-use Rattle.matching.specs.declared.fitting.Fitted.{Fitted}
+use Rattle.matching.specs.declared.unifying.Tried.{Tried}
 
 -- a variable that is bound to the row at q weighs so much at most: by the nodes and the places of variables of what the row stands for, one of each at least, and by how often any one is there
 pub record Heavy (heap cells : List ℕ) (base q : ℕ) (r : Weight) : Type 0 where
@@ -36,7 +35,7 @@ HangsLast heap cells trail t x cells' trail' (Some size) =
 HangsLast heap cells trail t x cells' trail' None = (cells' ≡ cells) × (trail' ≡ trail)
 
 -- as two rows are unified, and what is bound is weighed
-abbrev pub Fitting : List ℕ → List ℕ → List ℕ → Trial → ℕ → ℕ → List ℕ → List ℕ → Fitted → Type 0
-Fitting heap cells trail t p q cells' trail' (Fitted.Fits count size) = Unified heap cells trail t p q cells' trail' (Tried.Fits count 0) × Weighed heap cells' t.base trail' count size
-Fitting heap cells trail t p q cells' trail' (Fitted.Clash count) = Unified heap cells trail t p q cells' trail' (Tried.Clash count)
-Fitting heap cells trail t p q cells' trail' (Fitted.Tired count) = Unified heap cells trail t p q cells' trail' (Tried.Tired count)
+abbrev pub Fitting : List ℕ → List ℕ → List ℕ → Trial → ℕ → ℕ → List ℕ → List ℕ → Tried (Option Weight) → Type 0
+Fitting heap cells trail t p q cells' trail' (Tried.Fits count size) = Unified heap cells trail t p q cells' trail' (Tried.Fits count 0) × Weighed heap cells' t.base trail' count size
+Fitting heap cells trail t p q cells' trail' (Tried.Clash count) = Unified heap cells trail t p q cells' trail' (Tried.Clash count)
+Fitting heap cells trail t p q cells' trail' (Tried.Tired count) = Unified heap cells trail t p q cells' trail' (Tried.Tired count)

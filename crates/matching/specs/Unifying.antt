@@ -65,7 +65,7 @@ Stepped heap cells trail t p q cells' trail' Tired = (cells' ≡ cells) × (trai
 abbrev pub TrailKept : List ℕ → List ℕ → Trial → List ℕ → List ℕ → ℕ → Type 0
 TrailKept cells trail t cells' trail' count = ((before : List ℕ) → Trailed before cells trail t.base t.count → Trailed before cells' trail' t.base count) × (count ≤ t.count + t.fuel) × (length cells' ≡ length cells)
 
-abbrev pub Unified : List ℕ → List ℕ → List ℕ → Trial → ℕ → ℕ → List ℕ → List ℕ → Tried → Type 0
+abbrev pub Unified : List ℕ → List ℕ → List ℕ → Trial → ℕ → ℕ → List ℕ → List ℕ → Tried ℕ → Type 0
 Unified heap cells trail t p q cells' trail' (Tried.Fits count left) = More heap cells p q cells' × TrailKept cells trail t cells' trail' count × (count + left ≤ t.count + t.fuel) × Unseen heap cells cells'
 Unified heap cells trail t p q cells' trail' (Tried.Clash count) = TrailKept cells trail t cells' trail' count × ((τ : Subst) → Solves heap cells τ → ¬ Equal heap τ 1 p q) × Unseen heap cells cells'
 Unified heap cells trail t p q cells' trail' (Tried.Tired count) = TrailKept cells trail t cells' trail' count × Unseen heap cells cells'

@@ -70,14 +70,6 @@ fn hang_last(
     hang_row(heap, cells, trail, levels, t, id(y), x.q)
 }
 
-// The rows are equal, after so many bindings of goal variables, each of which stands for so much at most, where that is known; they can't be made equal; or nothing is known.
-#[derive(Clone, Copy)]
-pub enum Fitted {
-    Fits(usize, Option<Weight>),
-    Clash(usize),
-    Tired(usize),
-}
-
 // From the first pair on, by all variables.
 fn fit_all(
     heap: &[u32],
@@ -88,19 +80,19 @@ fn fit_all(
     t: Trial,
     p: usize,
     q: usize,
-) -> Fitted
+) -> Tried<Option<Weight>>
     requires made { Made heap.now cells.old × ((θ : Subst) × Solved heap.now cells.old θ) × (length cells.old ≤ 8256) × Whole heap.now 1 p × Whole heap.now 1 q × Begun heap.now cells.old t }
     requires fuel_bound { (t.fuel ≤ 8448) × (514 ≤ length levels.old) × (t.count + t.fuel ≤ length trail.old) × (387 ≤ length stack.old) }
     ensures { Fitting heap.now cells.old trail.old t p q cells.new trail.new result }
 {
     match unify(heap, cells, trail, levels, stack, t, p, q) {
-        Tried::Fits(count, _) => Fitted::Fits(count, None),
-        Tried::Clash(count) => Fitted::Clash(count),
-        Tried::Tired(count) => Fitted::Tired(count),
+        Tried::Fits(count, _) => Tried::Fits(count, None),
+        Tried::Clash(count) => Tried::Clash(count),
+        Tried::Tired(count) => Tried::Tired(count),
     }
 }
 
-// The formula's row at p and the head's at q are made equal, as by `unify`.
+// The formula's row at p and the head's at q are made equal, as by `unify`: what each goal variable that is bound weighs at most, where that is known.
 pub fn fit(
     heap: &[u32],
     cells: &mut [u16],
@@ -110,19 +102,19 @@ pub fn fit(
     t: Trial,
     p: usize,
     q: usize,
-) -> Fitted
+) -> Tried<Option<Weight>>
     requires made { Made heap.now cells.old × ((θ : Subst) × Solved heap.now cells.old θ) × (length cells.old ≤ 8256) × Whole heap.now 1 p × Whole heap.now 1 q × Begun heap.now cells.old t }
     requires fuel_bound { (t.fuel ≤ 8448) × (514 ≤ length levels.old) × (t.count + t.fuel ≤ length trail.old) × (387 ≤ length stack.old) × (t.base < 65536) }
     ensures { Fitting heap.now cells.old trail.old t p q cells.new trail.new result }
 {
     let Some(left) = match_head(heap, cells, stack, t, p, q) else {
-        return Fitted::Clash(t.count);
+        return Tried::Clash(t.count);
     };
     if left.due == 0 {
-        return Fitted::Fits(t.count, Some(weightless()));
+        return Tried::Fits(t.count, Some(weightless()));
     }
     match hang_last(heap, cells, trail, levels, t, left) {
-        Some(weight) => Fitted::Fits(t.count + 1, weight),
+        Some(weight) => Tried::Fits(t.count + 1, weight),
         None => fit_all(heap, cells, trail, levels, stack, t, p, q),
     }
 }

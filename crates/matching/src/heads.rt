@@ -10,8 +10,8 @@ ghost use Rattle.matching.specs.Heads.{Passes, HeadMet};
 
 use crate::pairs::{Pairs, behind, entered, settled};
 use crate::unifying::{DEEP, Trial};
-use heap::{SYMBOL, follow, id, past};
-use words::{arity, get, word};
+use heap::{SYMBOL, follow, id, past, row_of};
+use words::{arity, word};
 
 // A pair of the formula's row and the head's: these pairs are due in its place, and behind it; it can't be made equal; or it takes more than the head's variables.
 #[derive(Clone, Copy)]
@@ -46,7 +46,7 @@ fn match_variable(heap: &[u32], cells: &mut [u16], t: Trial, x: Pairs, v: usize)
     if v < t.base {
         return Way::Open;
     }
-    if get(cells, v) != 0 {
+    if row_of(cells, v).is_some() {
         return Way::Open;
     }
     let r = follow(heap, cells, x.p);

@@ -92,11 +92,11 @@ fn make(
     }
 }
 
-// The rows are equal, after so many bindings of goal variables and with so many nodes left; they can't be made equal; or the trial gave up and
+// The rows are equal, after so many bindings of goal variables, and this is known besides; they can't be made equal; or the trial gave up and
 // nothing is known. However it ends, the trail has so many goal variables.
 #[derive(Clone, Copy)]
-pub enum Tried {
-    Fits(usize, usize),
+pub enum Tried<T> {
+    Fits(usize, T),
     Clash(usize),
     Tired(usize),
 }
@@ -104,7 +104,7 @@ pub enum Tried {
 // The most levels of pairs.
 pub const DEEP: usize = 128;
 
-// The rows at p and q are made equal.
+// The rows at p and q are made equal: how many nodes may still be visited then.
 pub fn unify(
     heap: &[u32],
     cells: &mut [u16],
@@ -114,7 +114,7 @@ pub fn unify(
     t: Trial,
     p: usize,
     q: usize,
-) -> Tried
+) -> Tried<usize>
     requires made { Made heap.now cells.old × ((θ : Subst) × Solved heap.now cells.old θ) × (length cells.old ≤ 8256) × Whole heap.now 1 p × Whole heap.now 1 q × Begun heap.now cells.old t }
     requires fuel_bound { (t.fuel ≤ 8448) × (514 ≤ length levels.old) × (t.count + t.fuel ≤ length trail.old) × (387 ≤ length stack.old) }
     ensures { Unified heap.now cells.old trail.old t p q cells.new trail.new result }

@@ -2,14 +2,8 @@ use native.Mathlib.Omega.{arith}
 use mathlib.Core.Path.{ap}
 use lib.ListN.{length}
 use Rattle.heap.specs.HeapLaws.{rows_inside}
-use Rattle.figures.specs.FigureLaws.{leads-none, leads-alone, first-row-is, first-whole, head_few}
+use Rattle.figures.specs.FigureLaws.{leads-alone, first-row-is, first-whole, head_few}
 use Rattle.figures.proofs.first_of.Goals as goal
-
-pub returns-then-bodies-eq0 : goal.returns-then-bodies-eq0
-returns-then-bodies-eq0 c = (leads-none c.args.clause.now c.args.head c.args.bodies c.if-bodies-eq0.true, omega arith, omega (arith, (head_few c.args.clause.now c.args.head c.args.bodies c.requires.0 c.requires.1).1))
-
-pub overflow_sub-result : goal.overflow_sub-result
-overflow_sub-result c = omega (arith, (head_few c.args.clause.now c.args.head c.args.bodies c.requires.0 c.requires.1).1)
 
 pub returns-then-bodies-eq1 : goal.returns-then-bodies-eq1
 returns-then-bodies-eq1 c = let few = head_few c.args.clause.now c.args.head c.args.bodies c.requires.0 c.requires.1 in (leads-alone c.args.clause.now c.args.head c.args.bodies c.if-bodies-eq1.true, omega (arith, few.0, c.requires.1.size), omega (arith, few.1))

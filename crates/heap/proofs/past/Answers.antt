@@ -1,9 +1,6 @@
 use native.Mathlib.Omega.{arith}
-use Rattle.heap.specs.HeapLaws.{pass-start, pass-inside, pass-few, pass_on, pass-end}
+use Rattle.heap.specs.HeapLaws.{pass-inside, pass-few, pass_on}
 use Rattle.heap.proofs.past.Goals as goal
-
-pub loop-due-init : goal.loop-due-init
-loop-due-init c = pass-start c.requires.1
 
 pub word-u-requires : goal.word-u-requires
 word-u-requires c = pass-inside c.loop-due.invariant c.loop-due-test.true
@@ -19,6 +16,3 @@ loop-due-smaller c = omega (arith, pass-inside c.loop-due.invariant c.loop-due-t
 
 pub loop-due-preserved : goal.loop-due-preserved
 loop-due-preserved c = let l = c.loop-due-test.true in let x = c.loop-due.invariant in pass_on x (c.requires.0 _ (pass-inside x l)) l c.word-u.ensures c.arity.ensures.0 (omega arith) (omega arith)
-
-pub returns : goal.returns
-returns c = pass-end c.loop-due.invariant (omega (arith, c.loop-due-test.false))
