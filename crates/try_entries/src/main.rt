@@ -6,112 +6,103 @@
 // the check of a book (10), that of a query (11), a single step (12) and a run (13), and these four for C (14 to 17); a book (18), a goal (19) or an answer (20) to be printed; a text to be read as rules (21), and one to be read as a query (22). Numbers are most significant byte first. A stream that ends inside an item, or has an item that is none of these, gets the line `damaged`, and no item after it is tried.
 #![tactic(auto)]
 
-ghost use Rattle.std.specs.Prelude.{◌≤◌, length};
-
 mod entries;
 mod flat_entries;
+mod item;
 mod lent;
 mod line;
 mod number;
 mod print;
 mod text_entries;
 
+use crate::item::{Damaged, Entry};
+use std::alloc::{AllocError, Global};
 use std::io;
 use std::io::Read;
 
-fn damaged(rt: &impl Print) -> bool {
-    let _ = rt.write_all(b"damaged\n");
-    false
+// The longest item, and the longest area that is lent.
+const MOST: usize = 98_304;
+
+// An entry's number, and the length of what follows.
+const HEADER: usize = 5;
+
+// The number of the entry that is lent no area.
+const CHECK_BOOK: u8 = 1;
+
+// The item that was read last, and what is lent to its entry.
+#[derive(Drop)]
+struct Room {
+    item: Vec<u8>,
+    area: Vec<u8>,
+    answer: Vec<u8>,
 }
 
-fn tried(rt: &impl Print, entry: u8, item: &[u8], area: &mut [u8], answer: &mut [u8]) -> bool {
-    match entry {
-        1 => entries::check_book(rt, item),
-        2..=22 => lent::entry(rt, entry, item, area, answer),
-        _ => false,
+impl Room {
+    fn new(alloc: Global) -> Result<Room, AllocError> {
+        Ok(Room {
+            item: Vec::with_capacity(alloc, MOST)?,
+            area: vec![in alloc; 0; MOST]?,
+            answer: vec![in alloc; 0; MOST]?,
+        })
     }
-}
 
-// Reads until the buffer is full, the input ends or a read fails, and says how many bytes are in it then.
-fn read_full(input: &mut impl Read, buffer: &mut [u8]) -> usize
-    ensures { result ≤ length buffer.new }
-{
-    let mut done = 0;
-    while done < buffer.len() {
-        match input.read(&mut buffer[done..]) {
-            Ok(0) => break,
-            Ok(n) => done += n,
-            Err(_) => break,
+    // Puts the next bytes of the input into the item, which has room for them: as many as are asked for, or fewer where the input ends or a read fails.
+    fn read(&mut self, input: &mut impl Read, most: usize) {
+        self.item.clear();
+        let _ = input.take(most as u64).read_to_end(&mut self.item);
+    }
+
+    // Tries the item that was read last.
+    fn try_item(&mut self, rt: &impl Print, number: u8) -> Result<(), Damaged> {
+        let item = self.item.as_slice();
+        if number == CHECK_BOOK {
+            entries::check_book(rt, item);
+            return Ok(());
         }
+        let entry = Entry::try_from(number)?;
+        lent::entry(rt, entry, item, &mut self.area, &mut self.answer)
     }
-    done
-}
 
-// The rest of an item, of a length that was read before it.
-fn rest(
-    rt: &impl Print,
-    input: &mut impl Read,
-    entry: u8,
-    length: usize,
-    item: &mut [u8],
-    area: &mut [u8],
-    answer: &mut [u8],
-) -> bool {
-    if item.len() < length {
-        return damaged(rt);
-    }
-    let n = read_full(input, &mut item[0..length]);
-    if n < length {
-        return damaged(rt);
-    }
-    if tried(rt, entry, &item[0..length], area, answer) {
-        return true;
-    }
-    damaged(rt)
-}
-
-// Whether another item may follow.
-fn one(
-    rt: &impl Print,
-    input: &mut impl Read,
-    item: &mut [u8],
-    area: &mut [u8],
-    answer: &mut [u8],
-) -> bool {
-    let mut first = [0u8; 5];
-    match read_full(input, &mut first) {
-        0 => false,
-        5 => rest(
-            rt,
-            input,
-            first[0],
-            number::at(&first, 1) as usize,
-            item,
-            area,
-            answer,
-        ),
-        _ => damaged(rt),
-    }
-}
-
-fn all(
-    rt: &impl Print,
-    input: &mut impl Read,
-    item: &mut [u8],
-    area: &mut [u8],
-    answer: &mut [u8],
-) {
-    for i in 0..4294967295u32 {
-        if !one(rt, input, item, area, answer) {
-            return;
+    // Whether there was a next item, which was tried.
+    fn try_next(&mut self, rt: &impl Print, input: &mut impl Read) -> Result<bool, Damaged> {
+        self.read(input, HEADER);
+        if self.item.is_empty() {
+            return Ok(false);
         }
+        let (number, length) = header(&self.item).ok_or(Damaged)?;
+        if MOST < length {
+            return Err(Damaged);
+        }
+        self.read(input, length);
+        if self.item.len() < length {
+            return Err(Damaged);
+        }
+        self.try_item(rt, number)?;
+        Ok(true)
     }
+
+    // Tries the items up to the input's end, or to one that is damaged.
+    fn try_all(&mut self, rt: &impl Print, input: &mut impl Read) -> Result<(), Damaged> {
+        for _ in 0..u32::MAX {
+            if !self.try_next(rt, input)? {
+                break;
+            }
+        }
+        Ok(())
+    }
+}
+
+// The number of an item's entry, and how many bytes follow.
+fn header(bytes: &[u8]) -> Option<(u8, usize)> {
+    let (number, rest) = bytes.split_first()?;
+    let length = rest.as_array()?;
+    Some((*number, u32::from_be_bytes(*length) as usize))
 }
 
 fn main(rt: HostRuntime) -> io::Result<()> {
-    let mut item = [0u8; 98304];
-    let mut area = [0u8; 98304];
-    let mut answer = [0u8; 98304];
-    all(&rt, &mut rt.stdin(), &mut item, &mut area, &mut answer);
+    let mut room = Room::new(rt.alloc())?;
+    if room.try_all(&rt, &mut rt.stdin()).is_err() {
+        let _ = println!(rt; "damaged");
+    }
     Ok(())
 }
