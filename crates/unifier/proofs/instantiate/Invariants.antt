@@ -25,6 +25,3 @@ HeldIn w rows src out₀ out i at = Held w (ends w rows) (ups w rows) (picks w r
 
 abbrev pub invariant-loop-i : goal.invariant-loop-i
 invariant-loop-i l = HeldIn l.words l.initial.rows l.src l.initial.out l.out l.i l.«at» × (length l.rows ≡ CELLS) × Only (STACK ∷ []) l.initial.rows l.rows
-
-abbrev pub decreases-loop-i : goal.decreases-loop-i
-decreases-loop-i l = length l.src - l.i
