@@ -22,15 +22,13 @@ fn lacking(words: &[u32], rows: &[u16; CELLS], x: usize) -> usize
     let n = words.len();
     let k = arity(word(words, x));
     let mut c = x + 1;
-    let mut i = 0;
-    while i < k {
+    for i in 0..k {
         let r = find(rows, n, c);
         let z = cell(rows, RANK, r);
         if z == 0 {
             return r;
         }
         c = cell(rows, END, c);
-        i += 1;
     }
     n
 }
@@ -90,13 +88,11 @@ pub fn settle(words: &[u32], rows: &mut [u16; CELLS]) -> bool
     ensures { Settled words.now (ends words.now rows.old) (ups words.now rows.old) (picks words.now rows.old) (ranks words.now rows.new) result × Only (LEFT ∷ RIGHT ∷ RANK ∷ []) rows.old rows.new }
 {
     let mut s: usize = 1;
-    let mut r = 0;
-    while r < words.len() {
+    for r in 0..words.len() {
         s = visit(words, rows, r, s);
         if s == CLASH {
             return false;
         }
-        r += 1;
     }
     true
 }

@@ -35,12 +35,10 @@ pub fn flatten(rows: &mut [u16; CELLS], n: usize)
     requires { (n ≤ ROWS) × Down (column UP n rows.old) }
     ensures { Flat (column UP n rows.old) (column UP n rows.new) × Only (UP ∷ []) rows.old rows.new }
 {
-    let mut p = 0;
-    while p < n {
+    for p in 0..n {
         let q = cell(rows, UP, p);
         let g = cell(rows, UP, q);
         put(rows, UP, p, g);
-        p += 1;
     }
 }
 
@@ -97,15 +95,13 @@ fn spread(words: &[u32], rows: &mut [u16; CELLS], tail: usize, x: usize, y: usiz
     let mut t = tail;
     let mut c = x + 1;
     let mut d = y + 1;
-    let mut i = 0;
-    while i < k {
+    for i in 0..k {
         t = join(words, rows, t, c, d);
         if t == CLASH {
             return CLASH;
         }
         c = cell(rows, END, c);
         d = cell(rows, END, d);
-        i += 1;
     }
     t
 }

@@ -14,10 +14,8 @@ fn walk(rows: &[u16; CELLS], n: usize, from: usize, k: usize) -> usize
     ensures { result ≡ walk_of (column END n rows.now) k from }
 {
     let mut c = from;
-    let mut i = 0;
-    while i < k {
+    for i in 0..k {
         c = cell(rows, END, c);
-        i += 1;
     }
     c
 }
@@ -28,9 +26,7 @@ pub fn ends(words: &[u32], rows: &mut [u16; CELLS])
     ensures { Ends words.now (ends words.now rows.new) × Only (END ∷ []) rows.old rows.new }
 {
     let n = words.len();
-    let mut p = n;
-    while 0 < p {
-        p -= 1;
+    for p in (0..n).rev() {
         let k = arity(word(words, p));
         let e = walk(rows, n, p + 1, k);
         put(rows, END, p, e);
@@ -70,9 +66,7 @@ pub fn start(words: &[u32], rows: &mut [u16; CELLS])
     requires { Worded words.now ROWS }
     ensures { Slots words.now (ups words.now rows.new) (picks words.now rows.new) (firsts rows.new) (length words.now) × Only (UP ∷ PICK ∷ FIRST ∷ []) rows.old rows.new }
 {
-    let mut p = 0;
-    while p < words.len() {
+    for p in 0..words.len() {
         seat(words, rows, p);
-        p += 1;
     }
 }

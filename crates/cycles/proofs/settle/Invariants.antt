@@ -12,6 +12,3 @@ Held w e up pick rank stack place s r = (r ≤ length w) × Dive w e up pick ran
 
 abbrev pub invariant-loop-r : goal.invariant-loop-r
 invariant-loop-r l = Held l.words (ends l.words l.initial.rows) (ups l.words l.initial.rows) (picks l.words l.initial.rows) (ranks l.words l.rows) (lefts l.words l.rows) (rights l.words l.rows) l.s l.r × (length l.rows ≡ CELLS) × Only (LEFT ∷ RIGHT ∷ RANK ∷ []) l.initial.rows l.rows
-
-abbrev pub decreases-loop-r : goal.decreases-loop-r
-decreases-loop-r l = length l.words - l.r

@@ -8,6 +8,3 @@ use Rattle.joining.proofs.flatten.Given as goal
 
 abbrev pub invariant-loop-p : goal.invariant-loop-p
 invariant-loop-p l = Flat (column UP l.n l.initial.rows) (column UP l.n l.rows) × (l.p ≤ l.n) × (length l.rows ≡ CELLS) × Only (UP ∷ []) l.initial.rows l.rows
-
-abbrev pub decreases-loop-p : goal.decreases-loop-p
-decreases-loop-p l = l.n - l.p

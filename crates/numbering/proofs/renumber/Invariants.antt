@@ -8,6 +8,3 @@ use Rattle.numbering.proofs.renumber.Given as goal
 
 abbrev pub invariant-loop-i : goal.invariant-loop-i
 invariant-loop-i l = (l.i ≤ l.n) × (length l.words ≡ length l.initial.words) × (length l.rows ≡ CELLS) × (l.n ≤ length l.initial.words) × Upto l.initial.words l.words (table l.rows) (back l.rows) l.i l.count
-
-abbrev pub decreases-loop-i : goal.decreases-loop-i
-decreases-loop-i l = l.n - l.i

@@ -56,17 +56,17 @@ module _ (w rows z : List ℕ) (o : Only (STACK ∷ []) rows z) where
   emitted : (S : ℕ → Type 0) (out : List ℕ) (at u : ℕ) (y : List ℕ) (r : ℕ) → Written S out at (apply (solution_in w z) (node u ∷ [])) y r → Written S out at (apply (solution_in w rows) (node u ∷ [])) y r
   emitted S out at u y r h = rw (o.kept END (length w) refl, o.kept UP (length w) refl, o.kept PICK (length w) refl, o.kept RANK (length w) refl, o.kept FIRST ROWS refl) at h
 
-pub loop-i-init : goal.loop-i-init
-loop-i-init c = (begin c.args.words.now (ends c.args.words.now c.args.rows.now) (ups c.args.words.now c.args.rows.now) (picks c.args.words.now c.args.rows.now) (ranks c.args.words.now c.args.rows.now) (firsts c.args.rows.now) c.args.src.now c.args.out.now, search rules, same)
+pub loop-u-init : goal.loop-u-init
+loop-u-init c = (begin c.args.words.now (ends c.args.words.now c.args.rows.now) (ups c.args.words.now c.args.rows.now) (picks c.args.words.now c.args.rows.now) (ranks c.args.words.now c.args.rows.now) (firsts c.args.rows.now) c.args.src.now c.args.out.now, search rules, same)
 
 pub emit-at-requires : goal.emit-at-requires
-emit-at-requires c = (solved-in _ _ _ c.loop-i.invariant.2 c.requires.0, omega (arith, c.requires.1, c.loop-i.invariant.0.1), within c.args.words.now (ends c.args.words.now c.args.rows.now) (ups c.args.words.now c.args.rows.now) (picks c.args.words.now c.args.rows.now) (ranks c.args.words.now c.args.rows.now) (firsts c.args.rows.now) c.args.src.now c.args.out.now _ _ _ c.loop-i.invariant.0, rw c.word-u.ensures (c.requires.2 c.loop-i.i c.loop-i-test.true))
+emit-at-requires c = (solved-in _ _ _ c.loop-u.invariant.2 c.requires.0, omega (arith, c.requires.1, c.loop-u.invariant.0.1), within c.args.words.now (ends c.args.words.now c.args.rows.now) (ups c.args.words.now c.args.rows.now) (picks c.args.words.now c.args.rows.now) (ranks c.args.words.now c.args.rows.now) (firsts c.args.rows.now) c.args.src.now c.args.out.now _ _ _ c.loop-u.invariant.0, c.requires.2 c.loop-u.u-index c.loop-u-test.true)
 
 pub returns-then-at-eq-CLASH : goal.returns-then-at-eq-CLASH
-returns-then-at-eq-CLASH c = (stop c.args.words.now (ends c.args.words.now c.args.rows.now) (ups c.args.words.now c.args.rows.now) (picks c.args.words.now c.args.rows.now) (ranks c.args.words.now c.args.rows.now) (firsts c.args.rows.now) c.args.src.now c.args.out.now _ _ _ _ c.loop-i.invariant.0 c.loop-i-test.true c.word-u.ensures _ _ (emitted c.args.words.now _ _ c.loop-i.invariant.2 _ _ _ _ _ _ c.emit-at.ensures.0) c.if-at-eq-CLASH.true, after c.loop-i.invariant.2 c.emit-at.ensures.1)
+returns-then-at-eq-CLASH c = (stop c.args.words.now (ends c.args.words.now c.args.rows.now) (ups c.args.words.now c.args.rows.now) (picks c.args.words.now c.args.rows.now) (ranks c.args.words.now c.args.rows.now) (firsts c.args.rows.now) c.args.src.now c.args.out.now _ _ _ _ c.loop-u.invariant.0 c.loop-u-test.true refl _ _ (emitted c.args.words.now _ _ c.loop-u.invariant.2 _ _ _ _ _ _ c.emit-at.ensures.0) c.if-at-eq-CLASH.true, after c.loop-u.invariant.2 c.emit-at.ensures.1)
 
-pub loop-i-preserved : goal.loop-i-preserved
-loop-i-preserved c = (turn c.args.words.now (ends c.args.words.now c.args.rows.now) (ups c.args.words.now c.args.rows.now) (picks c.args.words.now c.args.rows.now) (ranks c.args.words.now c.args.rows.now) (firsts c.args.rows.now) c.args.src.now c.args.out.now _ _ _ _ c.loop-i.invariant.0 c.loop-i-test.true c.word-u.ensures _ _ (emitted c.args.words.now _ _ c.loop-i.invariant.2 _ _ _ _ _ _ c.emit-at.ensures.0) c.emit-at.auto.out c.if-at-eq-CLASH.false, search rules, after c.loop-i.invariant.2 c.emit-at.ensures.1)
+pub loop-u-preserved : goal.loop-u-preserved
+loop-u-preserved c = (turn c.args.words.now (ends c.args.words.now c.args.rows.now) (ups c.args.words.now c.args.rows.now) (picks c.args.words.now c.args.rows.now) (ranks c.args.words.now c.args.rows.now) (firsts c.args.rows.now) c.args.src.now c.args.out.now _ _ _ _ c.loop-u.invariant.0 c.loop-u-test.true refl _ _ (emitted c.args.words.now _ _ c.loop-u.invariant.2 _ _ _ _ _ _ c.emit-at.ensures.0) c.emit-at.auto.out c.if-at-eq-CLASH.false, search rules, after c.loop-u.invariant.2 c.emit-at.ensures.1)
 
 pub returns : goal.returns
-returns c = (finish c.args.words.now (ends c.args.words.now c.args.rows.now) (ups c.args.words.now c.args.rows.now) (picks c.args.words.now c.args.rows.now) (ranks c.args.words.now c.args.rows.now) (firsts c.args.rows.now) c.args.src.now c.args.out.now _ _ _ c.loop-i.invariant.0 c.loop-i-test.false, c.loop-i.invariant.2)
+returns c = (finish c.args.words.now (ends c.args.words.now c.args.rows.now) (ups c.args.words.now c.args.rows.now) (picks c.args.words.now c.args.rows.now) (ranks c.args.words.now c.args.rows.now) (firsts c.args.rows.now) c.args.src.now c.args.out.now _ _ _ c.loop-u.invariant.0 c.loop-u-test.false, c.loop-u.invariant.2)

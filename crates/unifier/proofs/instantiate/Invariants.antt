@@ -23,8 +23,5 @@ Held w e up pick rank first src out₀ out i at =
 abbrev pub HeldIn : List ℕ → List ℕ → List ℕ → List ℕ → List ℕ → ℕ → ℕ → Type 0
 HeldIn w rows src out₀ out i at = Held w (ends w rows) (ups w rows) (picks w rows) (ranks w rows) (firsts rows) src out₀ out i at
 
-abbrev pub invariant-loop-i : goal.invariant-loop-i
-invariant-loop-i l = HeldIn l.words l.initial.rows l.src l.initial.out l.out l.i l.«at» × (length l.rows ≡ CELLS) × Only (STACK ∷ []) l.initial.rows l.rows
-
-abbrev pub decreases-loop-i : goal.decreases-loop-i
-decreases-loop-i l = length l.src - l.i
+abbrev pub invariant-loop-u : goal.invariant-loop-u
+invariant-loop-u l = HeldIn l.words l.initial.rows l.src l.initial.out l.out l.u-index l.«at» × (length l.rows ≡ CELLS) × Only (STACK ∷ []) l.initial.rows l.rows

@@ -27,6 +27,3 @@ HeldIn w rows m k c d j = Held w (ends w rows) (ups w rows) (picks w rows) (rank
 
 abbrev pub invariant-loop-j : goal.invariant-loop-j
 invariant-loop-j l = HeldIn l.words l.rows l.m l.k l.c l.d l.j × (length l.rows ≡ CELLS) × Only (END ∷ UP ∷ PICK ∷ LEFT ∷ RIGHT ∷ RANK ∷ FIRST ∷ []) l.initial.rows l.rows
-
-abbrev pub decreases-loop-j : goal.decreases-loop-j
-decreases-loop-j l = l.k - l.j

@@ -9,6 +9,3 @@ use Rattle.positions.proofs.starting.ends.Given as goal
 
 abbrev pub invariant-loop-p : goal.invariant-loop-p
 invariant-loop-p l = (l.p ≤ length l.words) × (length l.rows ≡ CELLS) × ((q : ℕ) → l.p ≤ q → q < length l.words → Ended l.words (ends l.words l.rows) q) × Only (END ∷ []) l.initial.rows l.rows
-
-abbrev pub decreases-loop-p : goal.decreases-loop-p
-decreases-loop-p l = l.p

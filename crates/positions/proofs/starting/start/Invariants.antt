@@ -9,6 +9,3 @@ use Rattle.positions.proofs.starting.start.Given as goal
 
 abbrev pub invariant-loop-p : goal.invariant-loop-p
 invariant-loop-p l = (l.p ≤ length l.words) × (length l.rows ≡ CELLS) × Slots l.words (ups l.words l.rows) (picks l.words l.rows) (firsts l.rows) l.p × Only (UP ∷ PICK ∷ FIRST ∷ []) l.initial.rows l.rows
-
-abbrev pub decreases-loop-p : goal.decreases-loop-p
-decreases-loop-p l = length l.words - l.p
