@@ -44,7 +44,14 @@ pub fn put_names(area: &mut [u8], text: &[u8], starts: &[u16], lens: &[u8], kind
     let mut at = 0;
     for (i, start) in starts.iter().enumerate() {
         let rest = &mut area[at..];
-        at += put_entry(rest, text, kind, i, usize::from(*start), usize::from(lens[i]));
+        at += put_entry(
+            rest,
+            text,
+            kind,
+            i,
+            usize::from(*start),
+            usize::from(lens[i]),
+        );
     }
     at
 }
