@@ -54,6 +54,21 @@ module _ {text starts lens heads nexts : List ℕ} {c : Section} {ns : List (Lis
       (subst (Within text (take c.count (part c.from c.room starts))) (front lens)
       (names-within text (part c.from c.room starts) (part c.from c.room lens) c.count (long starts h.starts_room) (long lens h.lens_room) h.table.entries.inside))
 
+-- The slice of a table that is a section
+
+pub sliced : (a k : ℕ) (l : List ℕ) → take (a + k - a) (drop a l) ≡ part a k l
+sliced a k l = ap (λ (n : ℕ). take n (drop a l)) (let z : a + k - a ≡ k = omega arith in z)
+
+pub sizes-sliced : (a k : ℕ) (l : List ℕ) → sizes (take (a + k - a) (drop a l)) ≡ sizes (part a k l)
+sizes-sliced a k l = ap sizes (sliced a k l)
+
+pub within-sliced : (text S L : List ℕ) (a k : ℕ) → Within text (part a k S) (part a k L) → Within text (take (a + k - a) (drop a S)) (take (a + k - a) (drop a L))
+within-sliced text S L a k w = subst (λ (x : List ℕ). Within text x (take (a + k - a) (drop a L))) (inv (sliced a k S)) (subst (Within text (part a k S)) (inv (sliced a k L)) w)
+
+pub written-sliced : (text S L before after : List ℕ) (kind a k r : ℕ) → Written (noted kind 0 (heard text (take (a + k - a) (drop a S)) (take (a + k - a) (drop a L)))) before after r →
+    Written (noted kind 0 (heard text (part a k S) (part a k L))) before after r
+written-sliced text S L before after kind a k r w = subst (λ (x : List ℕ). Written x before after r) (ap (noted kind 0) (ap₂ (heard text) (sliced a k S) (sliced a k L))) w
+
 -- The list
 
 entries-noted : (k : Sort) (n : ℕ) (l : List (List ℕ)) → noted (kind k) n l ≡ entries k n l

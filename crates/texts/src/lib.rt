@@ -33,9 +33,9 @@ fn list_size(lens: &[u8], b: Draft) -> usize
     requires { (b.constants ≤ 11264) × (b.compounds ≤ 8448) × (b.predicates ≤ 8448) × (28160 ≤ length lens.now) }
     ensures { (result ≡ list_size lens.now b) × (result ≤ 16777216) }
 {
-    let constants = measure(lens, 0, b.constants);
-    let compounds = measure(lens, 11264, b.compounds);
-    let predicates = measure(lens, 19712, b.predicates);
+    let constants = measure(&lens[..b.constants]);
+    let compounds = measure(&lens[11264..11264 + b.compounds]);
+    let predicates = measure(&lens[19712..19712 + b.predicates]);
     constants + (compounds + predicates)
 }
 
@@ -44,12 +44,24 @@ fn put_list(area: &mut [u8], text: &[u8], starts: &[u16], lens: &[u8], b: Draft)
     requires { Named text.now starts.now lens.now b × (list_size lens.now b ≤ length area.old) }
     ensures { Written (list_bytes text.now starts.now lens.now b) area.old area.new result }
 {
-    let from = put_names(area, text, starts, lens, 0, b.constants, 2);
+    let from = put_names(area, text, &starts[..b.constants], &lens[..b.constants], 2);
     let rest = &mut area[from..];
-    let more = put_names(rest, text, starts, lens, 11264, b.compounds, 3);
+    let more = put_names(
+        rest,
+        text,
+        &starts[11264..11264 + b.compounds],
+        &lens[11264..11264 + b.compounds],
+        3,
+    );
     let end = from + more;
     let last = &mut area[end..];
-    end + put_names(last, text, starts, lens, 19712, b.predicates, 4)
+    end + put_names(
+        last,
+        text,
+        &starts[19712..19712 + b.predicates],
+        &lens[19712..19712 + b.predicates],
+        4,
+    )
 }
 
 // "last 43, area too small for the finished book or names"
