@@ -4,7 +4,7 @@ use native.Mathlib.Omega.{arith}
 use mathlib.Core.Path.{◌≡◌, refl, sym as inv, ap, ap₂, ◌∙◌, subst}
 use mathlib.Core.List.{List, [], ◌∷◌, ◌++◌, append-nil}
 use lib.ListN.{length, get_or, take, drop, length-drop, length-map}
-use lib.Seq.{take_at, drop_at, length-take-le}
+use lib.Seq.{take_at, drop_at, take_all, length-take-le}
 use Rattle.terms.specs.Node.{Expr}
 use Rattle.terms.specs.Row.{Row, Atom, Every}
 use Rattle.terms.specs.RowLaws.{row-long as as_long}
@@ -186,9 +186,9 @@ used-part words s = let e : s.top - 0 ≡ s.top = omega arith in ap (λ n. take 
 
 -- Told apart.
 
-module _ {words cells levels : List ℕ} {s : Standing} {f : Expr} {g a : Goal} (h : Holds words cells levels s (f ∷ g) a) (saved : List ℕ) (kept : ℕ) where
-  pub least_other : kept < s.least → kept ≤ length saved → f ≡ nodes (take kept saved) → ⊥
-  least_other l k e = omega (arith, l, h.leading, ap length e, length-map (take kept saved) node, length-take-le kept saved k)
+module _ {words cells levels : List ℕ} {s : Standing} {f : Expr} {g a : Goal} (h : Holds words cells levels s (f ∷ g) a) (saved : List ℕ) where
+  pub least_other : length saved < s.least → f ≡ nodes saved → ⊥
+  least_other l e = omega (arith, l, h.leading, ap length e, length-map saved node)
 
-  pub other-held : (heap : List ℕ) → heap ≡ used words s → Other heap cells s.at saved kept → f ≡ nodes (take kept saved) → ⊥
-  other-held heap e o same = subst (λ z. Other z cells s.at saved kept) e o h.meaning h.solved (held_first h ∙ same)
+  pub other-held : (heap : List ℕ) → heap ≡ used words s → Other heap cells s.at saved (length saved) → f ≡ nodes saved → ⊥
+  other-held heap e o same = subst (λ z. Other z cells s.at saved (length saved)) e o h.meaning h.solved (held_first h ∙ same ∙ ap nodes (inv (take_all (length saved) saved (omega arith))))

@@ -19,31 +19,24 @@ use heap::writing::{Pen, Run, symbols, write};
 use words::rows::CELLS;
 use words::{OUT, get};
 
-// Whether the goal's first formula is certainly not the first `kept` words of `saved`.
+// Whether the goal's first formula is certainly not the saved one.
 pub fn is_other(
     words: &[u32],
     cells: &[u16],
     levels: &mut [u16],
     s: Standing,
     saved: &[u32],
-    kept: usize,
 ) -> bool
     requires holds { (f : Expr) × (g : Goal) × (a : Goal) × Holds words.now cells.now levels.old s (f ∷ g) a }
-    requires valids { Valids (take kept saved.now) × (kept ≤ length saved.now) }
-    ensures other { result ≡ true → (f : Expr) (g a : Goal) → Holds words.now cells.now levels.old s (f ∷ g) a → f ≡ nodes (take kept saved.now) → ⊥ }
+    requires valids { Valids saved.now }
+    ensures other { result ≡ true → (f : Expr) (g a : Goal) → Holds words.now cells.now levels.old s (f ∷ g) a → f ≡ nodes saved.now → ⊥ }
     ensures held { (g a : Goal) → Holds words.now cells.now levels.old s g a → Holds words.now cells.now levels.new s g a }
 {
-    if kept < s.least {
+    if saved.len() < s.least {
         return true;
     }
     let top = s.top;
-    differs(
-        &words[0..top],
-        cells,
-        &mut levels[514..1028],
-        s.at,
-        &saved[..kept],
-    )
+    differs(&words[0..top], cells, &mut levels[514..1028], s.at, saved)
 }
 
 // What the rows of a walk without levels stand for, behind what is written; the goal's levels stay.

@@ -49,7 +49,7 @@ fn may_close(
     if s.formulas < detector.length as usize {
         return false;
     }
-    !is_other(words, cells, levels, s, saved, x.kept)
+    !is_other(words, cells, levels, s, &saved[..x.kept])
 }
 
 // How many words the formula has that is to be saved, where a save is due; none where it could not be written out.
