@@ -178,7 +178,7 @@ pub fn sized(
         count,
         known,
     ) else {
-        return unbounded();
+        return None;
     };
     grown_by(s, more, grown, count)
 }
