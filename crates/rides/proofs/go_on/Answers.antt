@@ -3,6 +3,7 @@ use Prim.Native.Nat.{◌≤◌}
 use native.Mathlib.Omega.{arith}
 use mathlib.Core.Path.{refl, sym, ◌∙◌}
 use Rattle.figures.specs.FigureLaws.{figured-none}
+use borrow.Author.Rules.{rules}
 use Rattle.rides.proofs.go_on.Goals as goal
 
 pub loop-ahead-init : goal.loop-ahead-init
