@@ -48,7 +48,8 @@ fn begun(s: Standing) -> Trial
     }
 }
 
-// What a trial has bound is not bound any more.
+// What a trial has bound is not bound any more, and the cells are as before, whatever was bound then. `release` (trials) promises of nothing bound before that nothing is; one for both would
+// have to promise both.
 pub fn release(cells: &mut [u16], rows: &[u16; CELLS], base: usize, count: usize)
     requires { (length cells.old ≡ 8256) × (base ≤ 8192) × ((before : List ℕ) × Undoable before cells.old rows.now base count) }
     ensures { (before : List ℕ) → Undoable before cells.old rows.now base count → cells.new ≡ before }
@@ -57,6 +58,7 @@ pub fn release(cells: &mut [u16], rows: &[u16; CELLS], base: usize, count: usize
     clear(cells, base, base + 64);
 }
 
+// By `fit`, which weighs what it binds, on levels and a stack that are lent. `try_rows` (trials) has its own, and neither a weight nor a solution before it.
 fn try_rows(
     heap: &[u32],
     cells: &mut [u16],

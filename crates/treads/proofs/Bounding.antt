@@ -176,10 +176,10 @@ module _ {words before levels : List ℕ} {s : Standing} {f : Expr} {g a : Goal}
         bare t = subst (λ x. Thrifty x (flat d.body)) head-words (subst (Thrifty (heap-nodes (take (head_long c) clause))) body-words t.thrifty)
 
         counted-nodes : CountedAdds heap cells s c first more → more.nodes ≡ nodes (map (apply τ) body)
-        counted-nodes k = k.nodes_are sum.added_known z.0 z.1 ∙ ap length body-flat ∙ flat-size (map (apply τ) body)
+        counted-nodes k = k.nodes_are z.0 z.1 ∙ ap length body-flat ∙ flat-size (map (apply τ) body)
 
         counted-places : CountedAdds heap cells s c first more → more.variables ≡ places_all (map (apply τ) body)
-        counted-places k = k.places_are sum.added_known z.0 z.1 ∙ ap places body-flat ∙ places-flat (map (apply τ) body)
+        counted-places k = k.places_are z.0 z.1 ∙ ap places body-flat ∙ places-flat (map (apply τ) body)
 
         goal-bound : nodes (map (apply τ) body ++ map (apply τ) G) ≤ r.nodes
         goal-bound = elim how [

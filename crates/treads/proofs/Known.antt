@@ -1,12 +1,9 @@
 -- An Option of which it is known whether there is a value.
-use mathlib.Core.Path.{◌≡◌, refl, sym as inv, ap, ◌∙◌, subst}
+use mathlib.Core.Path.{◌≡◌, refl, sym as inv, ap, ◌∙◌}
 use mathlib.Core.Bool.{Bool, true, false, not, true≢false}
-use Rattle.std.specs.Prelude.{is_some, IfSome}
+use Rattle.std.specs.Prelude.{is_some}
 use Rattle.std.specs.declared.option.Option.{Option}
 use Rattle.std.specs.declared.option.Option.TheVariants.{None, Some}
-
-pub of-some : {X : Type 0} (P : X → Type 0) {r : Option X} {x : X} → r ≡ Some x → IfSome r P → P x
-of-some P e y = subst (λ o. IfSome o P) e y
 
 pub none-if : {X : Type 0} (r : Option X) {b : Bool} → is_some r ≡ not b → b ≡ true → r ≡ None
 none-if None e t = refl

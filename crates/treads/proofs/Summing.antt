@@ -65,7 +65,7 @@ module _ {book words before levels : List ℕ} {s : Standing} {c : Span} {heap c
     how = inl (thrifty-adds (span_words book c) s c (length (first_of (body_rows heap s c))) r t x led (first-is u));
     names = x.names;
     few = x.few;
-    small = λ n. omega (arith, span-few u, u.placed.begins, u.placed.ends);
+    small = omega (arith, span-few u, u.placed.begins, u.placed.ends);
     spread = omega (arith, x.small);
   }
     where
@@ -75,18 +75,9 @@ module _ {book words before levels : List ℕ} {s : Standing} {c : Span} {heap c
   pub adds-counted : (y : Size) → Sized heap cells (body_at s c) c.bodies 256 y
       → Adds (span_words book c) heap cells s c (length (first_of (body_rows heap s c))) (record { nodes = y.nodes; less = 0; variables = y.variables; least = c.figure.first; names = 64 })
   adds-counted y z = record {
-    how = inr (record { less_is = refl; nodes_are = λ n. z.long; places_are = λ n. z.places; leads = first-is u });
+    how = inr (record { less_is = refl; nodes_are = z.long; places_are = z.places; leads = first-is u });
     names = u.placed.clause.fit;
     few = omega arith;
-    small = λ n. z.low;
+    small = z.low;
     spread = omega (arith, z.few, z.low);
-  }
-
-  pub adds-unknown : Adds (span_words book c) heap cells s c (length (first_of (body_rows heap s c))) (record { nodes = 65535; less = 0; variables = 0; least = c.figure.first; names = 64 })
-  adds-unknown = record {
-    how = inr (record { less_is = refl; nodes_are = λ n. absurd (n refl); places_are = λ n. absurd (n refl); leads = first-is u });
-    names = u.placed.clause.fit;
-    few = omega arith;
-    small = λ n. absurd (n refl);
-    spread = omega arith;
   }

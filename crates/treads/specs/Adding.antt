@@ -34,15 +34,15 @@ pub record ThriftyAdds (clause : List ℕ) (s : Standing) (c : Span) (first : �
 -- else what the body stands for is counted
 pub record CountedAdds (heap cells : List ℕ) (s : Standing) (c : Span) (first : ℕ) (r : Added) : Type 0 where
   pub less_is : r.less ≡ 0
-  pub nodes_are : (r.nodes ≡ 65535 → ⊥) → (θ : Subst) → Solved heap cells θ → r.nodes ≡ length (apply θ (rows heap c.bodies (body_at s c)))
-  pub places_are : (r.nodes ≡ 65535 → ⊥) → (θ : Subst) → Solved heap cells θ → r.variables ≡ places (apply θ (rows heap c.bodies (body_at s c)))
+  pub nodes_are : (θ : Subst) → Solved heap cells θ → r.nodes ≡ length (apply θ (rows heap c.bodies (body_at s c)))
+  pub places_are : (θ : Subst) → Solved heap cells θ → r.variables ≡ places (apply θ (rows heap c.bodies (body_at s c)))
   pub leads : r.least ≡ first
 
 pub record Adds (clause heap cells : List ℕ) (s : Standing) (c : Span) (first : ℕ) (r : Added) : Type 0 where
   pub how : ThriftyAdds clause s c first r ⊎ CountedAdds heap cells s c first r
   pub names : Fits r.names clause
   pub few : r.names ≤ 64
-  pub small : (r.nodes ≡ 65535 → ⊥) → r.nodes ≤ 256
+  pub small : r.nodes ≤ 256
   pub spread : r.variables ≤ 65535
 
 -- any one variable is there at most as often as there are places; or, where a thrifty body comes, as often as all of its own, and as any one was by what is bound
@@ -51,7 +51,6 @@ Often s more times variables r = ((r ≡ variables) ⊎ ((more.less ≡ 0 → �
 
 -- the bounds, where there is room, by so many nodes more, so many places of variables, and so many times as many of any one
 pub record Summed (s : Standing) (more : Added) (extra places times : ℕ) (r : Bounds) : Type 0 where
-  pub added_known : more.nodes ≡ 65535 → ⊥
   pub nodes_are : r.nodes + more.less ≡ s.nodes + extra + more.nodes
   pub found_is : r.found ≡ s.found + extra
   pub goal_room : r.nodes ≤ 4096

@@ -9,7 +9,7 @@ ghost use Rattle.heapgoals.specs.HoldLaws.{Fore};
 ghost use Rattle.treads.specs.Stepping.{IsUnderWay, body_rows, Bounded};
 ghost use Rattle.treads.specs.Adding.{span_words, Led, Adds, Often, Summed, Grows};
 
-use bounds::{OVER, Weight, size_of, weight_of};
+use bounds::{Weight, size_of, weight_of};
 use figures::Figure;
 use heapgoals::Standing;
 use words::rows::CELLS;
@@ -46,37 +46,30 @@ fn led(least: usize, whole: bool, head: usize, first: usize) -> usize
     first
 }
 
-fn body_adds(heap: &[u32], cells: &[u16], levels: &mut [u16], s: Standing, c: Span) -> Added
+// None where the body is not known to be short.
+fn body_adds(heap: &[u32], cells: &[u16], levels: &mut [u16], s: Standing, c: Span) -> Option<Added>
     requires { ((book : List ℕ) × (words : List ℕ) × (before : List ℕ) × (rests : List ℕ) × (tables : List ℕ) × (count : ℕ) × (f : Expr) × (g : Goal) × (a : Goal) × (d : Clause) × IsUnderWay book words before rests s c heap.now cells.now tables count f g a d) × (514 ≤ length levels.old) }
-    ensures { (book words before rests tables : List ℕ) (count : ℕ) (f : Expr) (g a : Goal) (d : Clause) → IsUnderWay book words before rests s c heap.now cells.now tables count f g a d → Adds (span_words book c) heap.now cells.now s c (length (first_of (body_rows heap.now s c))) result }
+    ensures { (book words before rests tables : List ℕ) (count : ℕ) (f : Expr) (g a : Goal) (d : Clause) → IsUnderWay book words before rests s c heap.now cells.now tables count f g a d → IfSome result (Adds (span_words book c) heap.now cells.now s c (length (first_of (body_rows heap.now s c)))) }
 {
     let first = c.figure.first;
     let head = c.head - c.start;
     if let Some(x) = c.figure.thrift {
-        return Added {
+        return Some(Added {
             nodes: c.end - c.head,
             less: head,
             variables: x.fresh,
             least: led(s.least, x.whole, head, first),
             names: x.names,
-        };
+        });
     }
-    let Some(y) = size_of(heap, cells, levels, s.top + head, c.bodies, 256) else {
-        return Added {
-            nodes: OVER,
-            less: 0,
-            variables: 0,
-            least: first,
-            names: 64,
-        };
-    };
-    Added {
+    let y = size_of(heap, cells, levels, s.top + head, c.bodies, 256)?;
+    Some(Added {
         nodes: y.nodes,
         less: 0,
         variables: y.variables,
         least: first,
         names: 64,
-    }
+    })
 }
 
 // The bounds of the next goal and answer.
@@ -116,9 +109,6 @@ fn bounded(s: Standing, more: Added, extra: usize, places: usize, times: usize) 
     requires extra_bound { (extra ≤ 536862720) × (places ≤ 536862720) × (times ≤ 553648129) }
     ensures { IfSome result (Summed s more extra places times) }
 {
-    if more.nodes == OVER {
-        return None;
-    }
     let total = s.nodes + extra + more.nodes;
     if total < more.less {
         return None;
@@ -166,19 +156,17 @@ pub fn sized(
     ensures levels { Fore levels.old levels.new }
     ensures bounds { IfSome result (λ r. (book words before : List ℕ) (f : Expr) (g a : Goal) (d : Clause) → IsUnderWay book words before levels.new s c heap.now cells.now rows.now count f g a d → Bounded heap.now cells.now levels.new s c r) }
 {
-    let more = body_adds(heap, cells, &mut levels[514..1028], s, c);
+    let more = body_adds(heap, cells, &mut levels[514..1028], s, c)?;
     if count == 0 {
         return bounded(s, more, 0, s.variables, 1); // where a formula only asks, the clause's variables alone are bound
     }
-    let Some(grown) = weight_of(
+    let grown = weight_of(
         heap,
         cells,
         &mut levels[514..1028],
         &rows[16512..24960],
         count,
         known,
-    ) else {
-        return None;
-    };
+    )?;
     grown_by(s, more, grown, count)
 }

@@ -20,7 +20,7 @@ use words::{WORDS, word};
 pub mod resetting; // no variable bound any more
 
 // Two rows on a heap where nothing is bound: equal now, with so many goal variables on the trail; or they can't be made equal; or nothing is
-// known. Only where they are equal is anything bound behind it.
+// known. Only where they are equal is anything bound behind it. Attempt (attempts) says besides how much what is bound weighs; a trial by `unify` alone does not know it, so that the two are not one.
 #[derive(Clone, Copy)]
 pub enum Attempt {
     Fits(usize),
@@ -31,7 +31,7 @@ pub enum Attempt {
 // The variables of a clause start here, behind those of goal and answer.
 pub const BASE: usize = 8192;
 
-// A trial's start: it may visit twice as many nodes as the row has, and 32, at most 8,448. What takes longer, such as doubled terms, is the other
+// A trial's start, told from a row that is written, and not from what is held as in `begun` (attempts): it may visit twice as many nodes as the row has, and 32, at most 8,448. What takes longer, such as doubled terms, is the other
 // step's.
 fn begun(row: usize) -> Trial
     ensures { (k : ℕ) × (k ≤ 8448) × (result ≡ record { base = 8192; start = row; count = 0; fuel = k }) }
@@ -107,7 +107,8 @@ pub struct Found {
     pub count: usize,
 }
 
-// The first clause whose head unifies with the row's first formula; none where nothing is known.
+// The first clause whose head unifies with the row's first formula; none where nothing is known. `first_fit` (attempts) is another search: it passes clauses over by the goal's first argument, leaves
+// facts untried, and keeps what was bound before.
 pub fn first_fit(
     book: &[u32],
     shelf: &[u16],

@@ -1,4 +1,3 @@
-use Rattle.treads.proofs.Known.{of-some}
 use Rattle.rides.proofs.Rides.{freed, arrived}
 use native.Mathlib.Omega.{arith}
 use borrow.Author.Rules.{rules}
@@ -8,7 +7,7 @@ pub returns-then-detector-since : goal.returns-then-detector-since
 returns-then-detector-since c = record { went = λ P q saved g a v h. tt; free = freed _ _ _ _ _ c.requires.1 c.clear.ensures }
 
 pub returns : goal.returns
-returns c = record { went = λ P q saved g a v h. arrived c.args.x _ _ _ _ _ c.requires.0 (search rules) (omega arith) v (of-some _ c.in_ok-row.was c.write_out-written.ensures.row g a h); free = freed _ _ _ _ _ c.requires.1 c.clear-2.ensures }
+returns c = record { went = λ P q saved g a v h. arrived c.args.x _ _ _ _ _ c.requires.0 (search rules) (omega arith) v (c.in_ok-row.ensures.row g a h); free = freed _ _ _ _ _ c.requires.1 c.clear-2.ensures }
 
 pub returns-in_err-row-clause-free : goal.returns-in_err-row-clause-free
-returns-in_err-row-clause-free c = freed _ _ _ _ _ c.requires.3 c.clear-2.ensures
+returns-in_err-row-clause-free c = freed _ _ _ _ _ c.requires.1 c.clear-2.ensures

@@ -1,7 +1,6 @@
 use native.Mathlib.Omega.{arith}
 use mathlib.Core.Path.{refl}
 use Rattle.heapgoals.specs.HoldLaws.{fore-same, held-due}
-use Rattle.treads.proofs.Known.{of-some}
 use Rattle.treads.proofs.Going.{span-few, body-few, under_way-fore, stands-front, stands-levels, stands-body, stands-valid, next_of}
 use Rattle.treads.proofs.go.Goals as goal
 
@@ -27,7 +26,7 @@ pub entered-w-requires : goal.entered-w-requires
 entered-w-requires c = let u = under_way-fore c.requires.0.7 c.sized.ensures.levels in record { valids = (stands-valid u, u.fitted.more.made.short, stands-front u, held-due u.held, stands-body u); levels = (stands-levels u, c.requires.1, u.held.levels_long) }
 
 pub overflow_add-result : goal.overflow_add-result
-overflow_add-result c = let b = of-some _ c.in_ok-size.was c.sized.ensures.bounds _ _ _ _ _ _ _ (under_way-fore c.requires.0.7 c.sized.ensures.levels) in record { fits = omega (arith, b.few, c.requires.0.7.room) }
+overflow_add-result c = let b = c.in_ok-size.ensures.bounds _ _ _ _ _ _ _ (under_way-fore c.requires.0.7 c.sized.ensures.levels) in record { fits = omega (arith, b.few, c.requires.0.7.room) }
 
 pub returns : goal.returns
-returns c = (refl, λ book words before f g a d v. let u = under_way-fore v c.sized.ensures.levels in next_of u c.in_ok-size.size (of-some _ c.in_ok-size.was c.sized.ensures.bounds _ _ _ _ _ _ _ u) c.entered-w.new.levels c.entered-w.result c.entered-w.ensures _ refl (omega (arith, c.if-formulas-gt512.false)))
+returns c = (refl, λ book words before f g a d v. let u = under_way-fore v c.sized.ensures.levels in next_of u c.in_ok-size.size (c.in_ok-size.ensures.bounds _ _ _ _ _ _ _ u) c.entered-w.new.levels c.entered-w.result c.entered-w.ensures _ refl (omega (arith, c.if-formulas-gt512.false)))

@@ -4,6 +4,7 @@ use mathlib.Core.Path.{refl, sym as inv, ◌∙◌}
 use lib.ListN.{length, take}
 use Rattle.picking.proofs.Picks.{found_after}
 use Rattle.trials.proofs.Tests.{fronted_still, found_here, passed_here, freed_clash, freed_tired, passed_on}
+use borrow.Author.Rules.{rules}
 use Rattle.trials.proofs.first_fit.Goals as goal
 
 pub clauses-all-requires : goal.clauses-all-requires

@@ -1,4 +1,3 @@
-use Rattle.treads.proofs.Known.{of-some}
 use Rattle.rides.proofs.Rides.{open_first, foreseen}
 use borrow.Author.Rules.{rules}
 use Rattle.rides.proofs.looking.look_ahead.Goals as goal
@@ -10,4 +9,4 @@ pub draw-requires : goal.draw-requires
 draw-requires c = open_first _ _ _ _ _ _ c.args.x (c.may_close.ensures.apart (search rules)) c.may_close.ensures.held c.requires.1
 
 pub returns : goal.returns
-returns c = record { foreseen = let y = of-some _ c.in_ok-kept.was c.draw.ensures.drawn in (y.0, foreseen _ _ _ _ _ _ c.args.x (c.may_close.ensures.apart (search rules)) c.may_close.ensures.held _ _ _ c.due-due.ensures y.1); held = λ g a h. c.draw.ensures.held g a (c.may_close.ensures.held g a h) }
+returns c = record { foreseen = let y = c.in_ok-kept.ensures.drawn in (y.0, foreseen _ _ _ _ _ _ c.args.x (c.may_close.ensures.apart (search rules)) c.may_close.ensures.held _ _ _ c.due-due.ensures y.1); held = λ g a h. c.draw.ensures.held g a (c.may_close.ensures.held g a h) }

@@ -1,6 +1,6 @@
 use native.Mathlib.Omega.{arith}
 use Rattle.treads.proofs.Going.{span-few, stands-body}
-use Rattle.treads.proofs.Summing.{adds-thrifty, adds-counted, adds-unknown}
+use Rattle.treads.proofs.Summing.{adds-thrifty, adds-counted}
 use Rattle.treads.proofs.sizing.body_adds.Goals as goal
 
 pub returns-in-Some : goal.returns-in-Some
@@ -13,7 +13,4 @@ pub size_of-requires : goal.size_of-requires
 size_of-requires c = record { made = (c.requires.0.10.fitted.more.made, stands-body c.requires.0.10); limit_bound = (omega arith, c.requires.1) }
 
 pub returns : goal.returns
-returns c = λ book words before rests tables count f g a d u. adds-counted u c.in-Some-size_of.y c.in-Some-size_of.ensures
-
-pub returns-in_default-size_of : goal.returns-in_default-size_of
-returns-in_default-size_of c = λ book words before rests tables count f g a d u. adds-unknown u
+returns c = λ book words before rests tables count f g a d u. adds-counted u c.in_ok-y.y c.in_ok-y.ensures

@@ -22,4 +22,4 @@ pub often-requires : goal.often-requires
 often-requires c = (c.requires.most_bound.0, c.requires.extra_bound.2)
 
 pub returns : goal.returns
-returns c = record { added_known = c.if-more-eq-OVER.false; nodes_are = omega (arith, c.if-total-more.false); found_is = refl; goal_room = omega (arith, c.if-nodes-gt4096.false); answer_room = omega (arith, c.if-found-gt4096.false); spread = (smaller _ _ c.min-variables.ensures).0; few = (smaller _ _ c.min-variables.ensures).1; often = c.often.ensures; least_is = refl; names_are = refl }
+returns c = record { nodes_are = omega (arith, c.if-total-more.false); found_is = refl; goal_room = omega (arith, c.if-nodes-gt4096.false); answer_room = omega (arith, c.if-found-gt4096.false); spread = (smaller _ _ c.min-variables.ensures).0; few = (smaller _ _ c.min-variables.ensures).1; often = c.often.ensures; least_is = refl; names_are = refl }

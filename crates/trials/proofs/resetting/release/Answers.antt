@@ -1,6 +1,7 @@
 use native.Mathlib.Omega.{arith}
 use mathlib.Core.Path.{◌∙◌}
 use Rattle.trials.proofs.Resets.{trail_long, free-again}
+use borrow.Author.Rules.{rules}
 use Rattle.trials.proofs.resetting.release.Goals as goal
 
 pub undo-requires : goal.undo-requires

@@ -2,6 +2,7 @@ use native.Mathlib.Omega.{arith}
 use mathlib.Core.Path.{refl, sym as inv, ◌∙◌, subst}
 use Rattle.trying.specs.Stepping.{Quickly}
 use Rattle.trying.proofs.Quicks.{row_fits, some-formulas, parts-small, end-small, lent-made, lent-solved, quick_many, lent_placed, quickly}
+use borrow.Author.Rules.{rules}
 use Rattle.trying.proofs.stepping.carry.Goals as goal
 
 pub parts_of-p-requires : goal.parts_of-p-requires
