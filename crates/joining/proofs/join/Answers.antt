@@ -1,4 +1,4 @@
-use Rattle.std.proofs.Common.{Option, None, Some}
+use Rattle.std.proofs.Common.{Option, Some}
 use Prim.Native.Nat.{ℕ, ◌<◌}
 use native.Mathlib.Omega.{arith}
 use mathlib.Core.Path.{◌≡◌, refl, sym, ap, ◌∙◌, subst}
@@ -11,7 +11,6 @@ use Rattle.positions.specs.Tables.{ups, picks, lefts, rights, state_in}
 use Rattle.positions.specs.RootLaws.{root_fix, root_le}
 use Rattle.joining.proofs.Flats.{flat_trans, flat-ready, flat-outcome, agree-back}
 use Rattle.joining.proofs.Stepping.{outcome_restated, stays}
-use borrow.Author.Rules.{rules}
 use Rattle.joining.proofs.join.Goals as goal
 
 -- u is up after the first way, and v after the second
