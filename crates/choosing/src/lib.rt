@@ -1,7 +1,7 @@
 // The first clause whose head unifies with a formula, in words.
 #![tactic(auto)]
 
-ghost use Rattle.std.specs.Prelude.{[], ◌∷◌, ℕ, ◌<◌, ◌≤◌, length};
+ghost use Rattle.std.specs.Prelude.{MatchOption, [], ◌∷◌, ℕ, ◌<◌, ◌≤◌, length};
 ghost use Rattle.terms.specs.Node.{Expr};
 ghost use Rattle.search.specs.Next.{Book};
 ghost use Rattle.words.specs.Held.{GoalIn, BookOn};
@@ -13,7 +13,7 @@ use words::rows::{CELLS, END, cell};
 use words::shelf::clauses;
 use words::{WORDS, arity, word};
 
-// The first clause from the number `from` on whose head unifies with the formula; how many clauses there are where there is none.
+// The first clause from the number `from` on whose head unifies with the formula, by its number.
 // "The trial of one head stops at its first clash": most heads that clash cost a comparison or two, and those of other predicates none but on the same
 // list (document 02, C-22).
 // With the shelf cut behind the clause number k and `from` k, that clause alone is tried.
@@ -24,9 +24,9 @@ pub fn pick(
     from: usize,
     words: &mut [u32; WORDS],
     rows: &mut [u16; CELLS],
-) -> usize
+) -> Option<usize>
     requires { ((f : Expr) × GoalIn formula.now 1 (f ∷ [])) × ((P : Book) × BookOn book.now shelf.now P × (from ≤ length P)) }
-    ensures { (f : Expr) (P : Book) → GoalIn formula.now 1 (f ∷ []) → BookOn book.now shelf.now P → Picked f P from result × (result < length P → Matched formula.now (head_at book.now shelf.now (length P) result) words.new rows.new) }
+    ensures { (f : Expr) (P : Book) → GoalIn formula.now 1 (f ∷ []) → BookOn book.now shelf.now P → MatchOption result (Picked f P from (length P)) (λ i. Picked f P from i × (i < length P) × Matched formula.now (head_at book.now shelf.now (length P) i) words.new rows.new) }
 {
     let n = clauses(shelf);
     let u = word(formula, 0);
@@ -34,13 +34,12 @@ pub fn pick(
     let mut i = find(book, shelf, u, from);
     'clauses: loop {
         if n <= i {
-            break n;
+            break None;
         }
-        let t = set_up(formula, book, shelf, i, words, rows);
-        if t == 0 {
+        let Some(t) = set_up(formula, book, shelf, i, words, rows) else {
             i = find_next(book, shelf, u, i); // told apart
             continue 'clauses;
-        }
+        };
         let mut c = 1;
         let mut d = formula.len() + 1;
         for j in 0..k {
@@ -52,7 +51,7 @@ pub fn pick(
             d = cell(rows, END, d);
         }
         if conclude(words, t, rows) {
-            break i;
+            break Some(i);
         }
         i = find_next(book, shelf, u, i); // a cycle
     }

@@ -9,13 +9,12 @@ ghost use Rattle.positions.specs.Ranking.{Settled};
 ghost use Rattle.positions.specs.Diving.{Searched, Opened};
 ghost use Rattle.positions.specs.Tables.{ends, ups, picks, ranks, Search, Found};
 
-use positions::CLASH;
 use positions::reading::find;
 use words::rows::{CELLS, END, LEFT, PICK, RANK, RIGHT, UP, cell, put};
 use words::{arity, word};
 
-// The class of the first argument at x that has no rank, or the number of words where each has one.
-fn lacking(words: &[u32], rows: &[u16; CELLS], x: usize) -> usize
+// The class of the first argument at x that has no rank.
+fn lacking(words: &[u32], rows: &[u16; CELLS], x: usize) -> Option<usize>
     requires { (length words.now ≤ ROWS) × Searched words.now (ends words.now rows.now) (ups words.now rows.now) (ranks words.now rows.now) × (x < length words.now) }
     ensures { Opened words.now (ends words.now rows.now) (ups words.now rows.now) (ranks words.now rows.now) x result }
 {
@@ -26,20 +25,19 @@ fn lacking(words: &[u32], rows: &[u16; CELLS], x: usize) -> usize
         let r = find(rows, n, c);
         let z = cell(rows, RANK, r);
         if z == 0 {
-            return r;
+            return Some(r);
         }
         c = cell(rows, END, c);
     }
-    n
+    None
 }
 
-// Ranks for `from` and all that it reaches, from `stamp` on, by a search with a stack; the next rank, or CLASH where the search comes back to the stack.
+// Ranks for `from` and all that it reaches, from `stamp` on, by a search with a stack; the next rank; none where the search comes back to the stack.
 // LEFT is the stack, and RIGHT has the places on it, from 1.
-fn dive(words: &[u32], rows: &mut [u16; CELLS], from: usize, stamp: usize) -> usize
+fn dive(words: &[u32], rows: &mut [u16; CELLS], from: usize, stamp: usize) -> Option<usize>
     requires { Search words.now rows.old stamp × (from < length words.now) × (get_or (ups words.now rows.old) from 0 ≡ from) × (get_or (ranks words.now rows.old) from 0 ≡ 0) }
     ensures { Found words.now rows.old from result rows.new × Only (LEFT ∷ RIGHT ∷ RANK ∷ []) rows.old rows.new }
 {
-    let n = words.len();
     put(rows, LEFT, 0, from);
     put(rows, RIGHT, from, 1);
     let mut top: usize = 1;
@@ -47,27 +45,28 @@ fn dive(words: &[u32], rows: &mut [u16; CELLS], from: usize, stamp: usize) -> us
     while 0 < top {
         let r = cell(rows, LEFT, top - 1);
         let x = cell(rows, PICK, r);
-        let k = lacking(words, rows, x);
-        if k < n {
-            let z = cell(rows, RIGHT, k);
-            if z == 0 {
+        match lacking(words, rows, x) {
+            Some(k) => {
+                let z = cell(rows, RIGHT, k);
+                if z != 0 {
+                    return None;
+                }
                 put(rows, LEFT, top, k);
                 top += 1;
                 put(rows, RIGHT, k, top);
-            } else {
-                return CLASH;
             }
-        } else {
-            put(rows, RANK, r, s);
-            s += 1;
-            top -= 1;
+            None => {
+                put(rows, RANK, r, s);
+                s += 1;
+                top -= 1;
+            }
         }
     }
-    s
+    Some(s)
 }
 
 // The same for r, where r is a root that has no rank yet.
-fn visit(words: &[u32], rows: &mut [u16; CELLS], r: usize, stamp: usize) -> usize
+fn visit(words: &[u32], rows: &mut [u16; CELLS], r: usize, stamp: usize) -> Option<usize>
     requires { Search words.now rows.old stamp × (r < length words.now) }
     ensures { Found words.now rows.old r result rows.new × Only (LEFT ∷ RIGHT ∷ RANK ∷ []) rows.old rows.new }
 {
@@ -77,9 +76,9 @@ fn visit(words: &[u32], rows: &mut [u16; CELLS], r: usize, stamp: usize) -> usiz
         if z == 0 {
             return dive(words, rows, r, stamp);
         }
-        return stamp;
+        return Some(stamp);
     }
-    stamp
+    Some(stamp)
 }
 
 // Ranks for the roots, above the roots of their arguments; false where there is a cycle.
@@ -89,10 +88,10 @@ pub fn settle(words: &[u32], rows: &mut [u16; CELLS]) -> bool
 {
     let mut s: usize = 1;
     for r in 0..words.len() {
-        s = visit(words, rows, r, s);
-        if s == CLASH {
+        let Some(next) = visit(words, rows, r, s) else {
             return false;
-        }
+        };
+        s = next;
     }
     true
 }

@@ -1,4 +1,5 @@
 -- A shorter way to a root changes no class.
+use Rattle.std.proofs.Common.{Option, None, Some}
 use Prim.Native.Nat.{ℕ, ◌+◌, ◌<◌}
 use native.Mathlib.Omega.{arith}
 use native.Mathlib.Decide.{ℕ_discrete}
@@ -87,10 +88,10 @@ module _ (w up z pick left right : List ℕ) (tail : ℕ) (t : Flat up z) where
   pub flat-ready : Ready w (state up pick left right tail) → Ready w (state z pick left right tail)
   flat-ready r = record { grouped = flat-grouped r.grouped; left_length = r.left_length; right_length = r.right_length; count = omega (arith, t.count, r.count); pairs = r.pairs }
 
-  pub flat-outcome : (P : Label → Type 0) (y : State) → Outcome w (state z pick left right tail) P y → Outcome w (state up pick left right tail) P y
-  flat-outcome P y o = record {
-    clash = λ e f a g p. o.clash e f a (agree-flat up z f t g) p;
-    step = λ n. let s = o.step n in record {
+  pub flat-outcome : (P : Label → Type 0) (y : ℕ → State) (r : Option ℕ) → Outcome w (state z pick left right tail) P y r → Outcome w (state up pick left right tail) P y r
+  flat-outcome P y None o = record { known = λ f a g p. o.known f a (agree-flat up z f t g) p }
+  flat-outcome P y (Some k) o = record {
+    known = let s = o.known in record {
       ready = s.ready;
       grows = s.grows;
       left_kept = s.left_kept;

@@ -1,4 +1,5 @@
 -- Steps: none, with another wish, and one after another.
+use Rattle.std.proofs.Common.{Option, None, Some}
 use Prim.Native.Nat.{ℕ}
 use native.Mathlib.Omega.{arith}
 use native.Mathlib.Decide.{dec_lt}
@@ -33,17 +34,12 @@ restated w s z P Q pq qp t = record {
   args = t.args;
 }
 
-pub outcome_restated : (w : List ℕ) (s z : State) (P Q : Label → Type 0) → ((f : Label) → Agree f s.up → P f → Q f) → ((f : Label) → Agree f s.up → Q f → P f) → Outcome w s P z → Outcome w s Q z
-outcome_restated w s z P Q pq qp o = record {
-  clash = λ e f a g q. o.clash e f a g (qp f g q);
-  step = λ n. restated w s z P Q pq qp (o.step n);
-}
+pub outcome_restated : (w : List ℕ) (s : State) (z : ℕ → State) (r : Option ℕ) (P Q : Label → Type 0) → ((f : Label) → Agree f s.up → P f → Q f) → ((f : Label) → Agree f s.up → Q f → P f) → Outcome w s P z r → Outcome w s Q z r
+outcome_restated w s z None P Q pq qp o = record { known = λ f a g q. o.known f a g (qp f g q) }
+outcome_restated w s z (Some t) P Q pq qp o = record { known = restated w s (z t) P Q pq qp o.known }
 
-pub stays : (w : List ℕ) (s : State) (P : Label → Type 0) → Ready w s → ((f : Label) → Agree f s.up → P f) → Outcome w s P s
-stays w s P r h = record {
-  clash = λ e. absurd (omega (arith, r.count, r.grouped.small, e));
-  step = λ n. idle w s P r h;
-}
+pub stays : (w : List ℕ) (z : ℕ → State) (t : ℕ) (P : Label → Type 0) → Ready w (z t) → ((f : Label) → Agree f (z t).up → P f) → Outcome w (z t) P z (Some t)
+stays w z t P r h = record { known = idle w (z t) P r h }
 
 pub followed : (w : List ℕ) (s m z : State) (P Q : Label → Type 0) → Step w s P m → Step w m Q z → Step w s (λ f. P f × Q f) z
 followed w s m z P Q t u = record {

@@ -1,5 +1,5 @@
 -- A search from root to root through the arguments, with a stack.
-use Rattle.std.specs.Prelude.{ℕ, ◌+◌, ◌≤◌, ◌<◌, ◌≡◌, List, length, get_or}
+use Rattle.std.specs.Prelude.{Option, MatchOption, ℕ, ◌+◌, ◌≤◌, ◌<◌, ◌≡◌, List, length, get_or}
 use Rattle.words.specs.Word.{arity_of}
 use Rattle.positions.specs.Words.{child, Ends}
 use Rattle.positions.specs.Classes.{root, Down, Label, Agree}
@@ -14,10 +14,10 @@ pub record Searched (w e up rank : List ℕ) : Type 0 where
   pub rank_length : length rank ≡ length w
   pub down : Down up
 
--- r is the class of an argument at x that has no rank, or the length of w where each has one
-pub record Opened (w e up rank : List ℕ) (x r : ℕ) : Type 0 where
-  pub full : length w ≤ r → (i : ℕ) → i < arity_of (get_or w x 0) → 0 < under e up rank x i
-  pub lacking : r < length w → (i : ℕ) × (i < arity_of (get_or w x 0)) × (r ≡ root up (child e x i)) × (get_or rank r 0 ≡ 0)
+-- each argument at x has a rank; or k is the class of one that has none
+pub record Opened (w e up rank : List ℕ) (x : ℕ) (r : Option ℕ) : Type 0 where
+  pub known : MatchOption r ((i : ℕ) → i < arity_of (get_or w x 0) → 0 < under e up rank x i)
+      (λ k. (k < length w) × ((i : ℕ) × (i < arity_of (get_or w x 0)) × (k ≡ root up (child e x i)) × (get_or rank k 0 ≡ 0)))
 
 -- no good label is the same over the classes
 abbrev pub Cyclic : List ℕ → List ℕ → List ℕ → Type 0
@@ -42,6 +42,6 @@ pub record Dived (w e up pick rank₀ : List ℕ) (r : ℕ) (rank : List ℕ) (s
   pub kept : (q : ℕ) → 0 < get_or rank₀ q 0 → 0 < get_or rank q 0
   pub done : get_or up r 0 ≡ r → 0 < get_or rank r 0
 
-pub record Diving (w e up pick rank₀ : List ℕ) (r : ℕ) (rank : List ℕ) (s : ℕ) (stack place : List ℕ) : Type 0 where
-  pub cycle : s ≡ 65535 → Cyclic w e up
-  pub dived : (s ≡ 65535 → ⊥) → Dived w e up pick rank₀ r rank s stack place
+-- there is a cycle; or that, and the next rank is t
+pub record Diving (w e up pick rank₀ : List ℕ) (r : ℕ) (rank : List ℕ) (s : Option ℕ) (stack place : List ℕ) : Type 0 where
+  pub known : MatchOption s (Cyclic w e up) (λ t. Dived w e up pick rank₀ r rank t stack place)

@@ -1,5 +1,5 @@
 -- The state of a closure and what a step of it does.
-use Rattle.std.specs.Prelude.{ℕ, suc, ◌+◌, ◌≤◌, ◌<◌, ◌≡◌, Bool, true, false, List, [], ◌∷◌, length, get_or, eqb}
+use Rattle.std.specs.Prelude.{Option, MatchOption, ℕ, suc, ◌+◌, ◌≤◌, ◌<◌, ◌≡◌, Bool, true, false, List, [], ◌∷◌, length, get_or, eqb}
 use Rattle.words.specs.Word.{arity_of, Plain}
 use Rattle.positions.specs.Words.{child}
 use Rattle.positions.specs.Classes.{root, Down, Label, Agree, picked, Grouped}
@@ -72,9 +72,9 @@ pub record Step (w : List ℕ) (s : State) (P : Label → Type 0) (z : State) : 
 abbrev pub Fails : List ℕ → State → (Label → Type 0) → Type 0
 Fails w s P = (f : Label) → Apart w f → Agree f s.up → P f → ⊥
 
-pub record Outcome (w : List ℕ) (s : State) (P : Label → Type 0) (z : State) : Type 0 where
-  pub clash : z.tail ≡ 65535 → Fails w s P
-  pub step : (z.tail ≡ 65535 → ⊥) → Step w s P z
+-- two words differ; or so many pairs are there, and z has the state with them
+pub record Outcome (w : List ℕ) (s : State) (P : Label → Type 0) (z : ℕ → State) (r : Option ℕ) : Type 0 where
+  pub known : MatchOption r (Fails w s P) (λ t. Step w s P (z t))
 
 -- the same classes, by other ways to the roots
 pub record Flat (up z : List ℕ) : Type 0 where

@@ -1,5 +1,5 @@
 -- The tables of a problem, each a column of the rows lent.
-use Rattle.std.specs.Prelude.{ℕ, Bool, List, length}
+use Rattle.std.specs.Prelude.{Option, ℕ, Bool, List, length}
 use Rattle.terms.specs.Subst.{Subst}
 use Rattle.words.specs.Columns.{column, END, UP, PICK, LEFT, RIGHT, RANK, FIRST, STACK, ROWS}
 use Rattle.words.specs.Word.{Valids}
@@ -74,6 +74,6 @@ pub record Search (w rows : List ℕ) (s : ℕ) : Type 0 where
   pub valid : Valids w
   pub dive : Dive w (ends w rows) (ups w rows) (picks w rows) (ranks w rows) s (lefts w rows) (rights w rows) 0
 
--- after it, from rows to z, the next rank is t
-abbrev pub Found : List ℕ → List ℕ → ℕ → ℕ → List ℕ → Type 0
+-- after it, from rows to z: a cycle, or the next rank is t
+abbrev pub Found : List ℕ → List ℕ → ℕ → Option ℕ → List ℕ → Type 0
 Found w rows r t z = Diving w (ends w rows) (ups w rows) (picks w rows) (ranks w rows) r (ranks w z) t (lefts w z) (rights w z)

@@ -1,5 +1,5 @@
 -- The solution written out.
-use Rattle.std.specs.Prelude.{ℕ, zero, suc, ◌+◌, ◌-◌, ◌%◌, ◌≤◌, ◌<◌, ◌≡◌, List, [], ◌++◌, length, get_or, take}
+use Rattle.std.specs.Prelude.{Option, MatchOption, ℕ, zero, suc, ◌+◌, ◌-◌, ◌%◌, ◌≤◌, ◌<◌, ◌≡◌, List, [], ◌++◌, length, get_or, take}
 use Rattle.terms.specs.Node.{Expr}
 use Rattle.words.specs.Word.{nodes}
 use Rattle.positions.specs.Words.{child}
@@ -26,7 +26,6 @@ pub record Written (S : ℕ → Type 0) (out : List ℕ) (at : ℕ) (t : Expr) (
   pub kept : (r ≡ 65535 → ⊥) → (x : ℕ) → x < at → get_or z x 0 ≡ get_or out x 0
   pub from : (r ≡ 65535 → ⊥) → (x : ℕ) → at ≤ x → x < r → S (get_or z x 0)
 
--- r is the position that `first` has for the variable whose word is u, or the length of w where that variable is not there
-pub record Bound (w first : List ℕ) (u r : ℕ) : Type 0 where
-  pub here : r < length w → (r ≡ get_or first (u % 65536) 0) × (get_or w r 0 ≡ u)
-  pub away : length w ≤ r → get_or w (get_or first (u % 65536) 0) 0 ≡ u → ⊥
+-- the variable whose word is u is not where `first` has it; or q is that position
+pub record Bound (w first : List ℕ) (u : ℕ) (r : Option ℕ) : Type 0 where
+  pub known : MatchOption r (get_or w (get_or first (u % 65536) 0) 0 ≡ u → ⊥) (λ q. (q < length w) × (q ≡ get_or first (u % 65536) 0) × (get_or w q 0 ≡ u))

@@ -1,3 +1,4 @@
+use Rattle.std.proofs.Common.{Option, None, Some}
 use Prim.Native.Nat.{ℕ, ◌+◌, ◌-◌, ◌<◌, ◌≤◌}
 use native.Mathlib.Omega.{arith}
 use mathlib.Core.Path.{◌≡◌, refl, sym, ap, ◌∙◌}
@@ -18,6 +19,20 @@ use Rattle.cycles.proofs.Dives.{pick-in, shorter, fewer, room, pushed, popped, k
 use borrow.Author.Rules.{rules}
 use Rattle.cycles.proofs.dive.Invariants.{Held}
 use Rattle.cycles.proofs.dive.Goals as goal
+
+-- what is known of k, where it is the class of an argument with no rank, and where it is past the words
+record Seen (w e up rank : List ℕ) (x k : ℕ) : Type 0 where
+  full : length w ≤ k → (i : ℕ) → i < arity_of (get_or w x 0) → 0 < under e up rank x i
+  lacking : k < length w → (i : ℕ) × (i < arity_of (get_or w x 0)) × (k ≡ root up (child e x i)) × (get_or rank k 0 ≡ 0)
+
+seen : {w e up rank : List ℕ} {x : ℕ} (r : Option ℕ) → Opened w e up rank x r → (k : ℕ) → r ≡ Some k → Seen w e up rank x k
+seen r o k e = let h = rw e at o.known in record { full = λ l. absurd (omega (arith, l, h.0)); lacking = λ l. h.1 }
+
+seen-in : {w e up rank : List ℕ} {x : ℕ} (r : Option ℕ) → Opened w e up rank x r → (k : ℕ) → r ≡ Some k → k < length w
+seen-in r o k e = (rw e at o.known).0
+
+seen-all : {w e up rank : List ℕ} {x : ℕ} (r : Option ℕ) → Opened w e up rank x r → r ≡ None → Seen w e up rank x (length w)
+seen-all r o e = record { full = λ l. rw e at o.known; lacking = λ l. absurd (omega (arith, l)) }
 
 module _ (w e up pick : List ℕ) (from : ℕ) (rank : List ℕ) (stamp : ℕ) (stack place : List ℕ)
     (d₀ : Dive w e up pick rank stamp stack place 0) (hf : from < length w) (rf : get_or up from 0 ≡ from) (nf : get_or rank from 0 ≡ 0) where
@@ -45,7 +60,7 @@ module _ (w e up pick rank₀ : List ℕ) (from : ℕ) (rank stack place : List 
     in_x : x < length w
     in_x = rw ex (pick-in w up pick g r in_r root_r)
 
-    module _ (op : Opened w e up rank x k) where
+    module _ (op : Seen w e up rank x k) where
       module _ (hk : k < length w) where
         root_k : get_or up k 0 ≡ k
         root_k = rw (op.lacking hk).2 (root_fix up se.down (child e x (op.lacking hk).0))
@@ -93,11 +108,8 @@ module _ (w e up pick rank₀ : List ℕ) (from : ℕ) (rank stack place : List 
                 rw y (ranks-in w e up pick rank s stack place top inv.0 (top - 1) (omega arith) can)),
           )
 
-finish : (w e up pick rank₀ : List ℕ) (from : ℕ) (rank stack place : List ℕ) (top s : ℕ) → length w ≤ 4352 → Held w e up pick rank₀ from rank stack place top s → top ≡ 0 → Diving w e up pick rank₀ from rank s stack place
-finish w e up pick rank₀ from rank stack place top s small h z = record {
-  cycle = λ y. absurd (omega (arith, y, h.0.ranked.count, small));
-  dived = λ n. record { dive = rw z at h.0; kept = h.1; done = λ y. h.3 z };
-}
+finish : (w e up pick rank₀ : List ℕ) (from : ℕ) (rank stack place : List ℕ) (top s : ℕ) → length w ≤ 4352 → Held w e up pick rank₀ from rank stack place top s → top ≡ 0 → Diving w e up pick rank₀ from rank (Some s) stack place
+finish w e up pick rank₀ from rank stack place top s small h z = record { known = record { dive = rw z at h.0; kept = h.1; done = λ y. h.3 z } }
 
 -- the same of rows: z is the storage where the loop begins
 
@@ -143,10 +155,10 @@ module _ {w z rows : List ℕ} {from top s r : ℕ} (t : Top w z rows from top s
 record Look (w z rows : List ℕ) (from top s r x k : ℕ) : Type 0 where
   at : Top w z rows from top s r
   ex : x ≡ get_or (picks w rows) r 0
-  op : Opened w (ends w rows) (ups w rows) (ranks w rows) x k
+  op : Seen w (ends w rows) (ups w rows) (ranks w rows) x k
 
 module _ {w z rows : List ℕ} {from top s r x k : ℕ} (l : Look w z rows from top s r x k) where
-  op' : Opened w (ends w z) (ups w z) (ranks w rows) x k
+  op' : Seen w (ends w z) (ups w z) (ranks w rows) x k
   op' = rw (l.at.o.kept END (length w) refl, l.at.o.kept UP (length w) refl) at l.op
 
   cycles_in : (t : ℕ) → k < length w → t ≡ get_or (rights w rows) k 0 → (t ≡ 0 → ⊥) → Cyclic w (ends w z) (ups w z)
@@ -171,7 +183,7 @@ module _ {w z rows : List ℕ} {from top s r x k : ℕ} (l : Look w z rows from 
 cyclic-in : (w rows z : List ℕ) → Only (LEFT ∷ RIGHT ∷ []) rows z → Cyclic w (ends w z) (ups w z) → Cyclic w (ends w rows) (ups w rows)
 cyclic-in w rows z o h = rw (← o.kept END (length w) refl, ← o.kept UP (length w) refl) h
 
-finish-in : (w rows z q : List ℕ) (from top s : ℕ) → length w ≤ 4352 → Only (LEFT ∷ RIGHT ∷ []) rows z → Held w (ends w z) (ups w z) (picks w z) (ranks w z) from (ranks w q) (lefts w q) (rights w q) top s → top ≡ 0 → Found w rows from s q
+finish-in : (w rows z q : List ℕ) (from top s : ℕ) → length w ≤ 4352 → Only (LEFT ∷ RIGHT ∷ []) rows z → Held w (ends w z) (ups w z) (picks w z) (ranks w z) from (ranks w q) (lefts w q) (rights w q) top s → top ≡ 0 → Found w rows from (Some s) q
 finish-in w rows z q from top s small o h e =
     rw (← o.kept END (length w) refl, ← o.kept UP (length w) refl, ← o.kept PICK (length w) refl, ← o.kept RANK (length w) refl) (finish w (ends w z) (ups w z) (picks w z) (ranks w z) from (ranks w q) (lefts w q) (rights w q) top s small h e)
 
@@ -204,8 +216,8 @@ cell-x-requires c = let opened : Only (LEFT ∷ RIGHT ∷ []) c.args.rows.now c.
     } in
     (search rules, omega (arith, c.requires.0.grouped.small, in_r_in (top-at)))
 
-pub lacking-k-requires : goal.lacking-k-requires
-lacking-k-requires c = let opened : Only (LEFT ∷ RIGHT ∷ []) c.args.rows.now c.put-2.new.rows = after (wider (LEFT ∷ RIGHT ∷ []) refl c.put.ensures.only) (wider (LEFT ∷ RIGHT ∷ []) refl c.put-2.ensures.only) in
+pub lacking-requires : goal.lacking-requires
+lacking-requires c = let opened : Only (LEFT ∷ RIGHT ∷ []) c.args.rows.now c.put-2.new.rows = after (wider (LEFT ∷ RIGHT ∷ []) refl c.put.ensures.only) (wider (LEFT ∷ RIGHT ∷ []) refl c.put-2.ensures.only) in
     let under_top : 0 < c.loop-top.top → c.loop-top.top - 1 < length c.args.words.now = λ h. omega (arith, h, c.loop-top.invariant.0.0.count) in
     let top-at : let l = c.loop-top in Top c.args.words.now c.put-2.new.rows l.rows c.args.from l.top l.s c.cell-r.result = let o = opened in
     let p = c.requires.0 in
@@ -222,10 +234,10 @@ lacking-k-requires c = let opened : Only (LEFT ∷ RIGHT ∷ []) c.args.rows.now
     (c.requires.0.grouped.small, again-in (top-at), in_x_in (top-at) (picked-at))
 
 pub cell-z-requires : goal.cell-z-requires
-cell-z-requires c = (search rules, omega (arith, c.requires.0.grouped.small, c.if-k-n.true))
+cell-z-requires c = (search rules, omega (arith, c.requires.0.grouped.small, (seen-in _ c.lacking.ensures _ c.in-Some.is)))
 
-pub put-requires-then-z-eq0 : goal.put-requires-then-z-eq0
-put-requires-then-z-eq0 c = let opened : Only (LEFT ∷ RIGHT ∷ []) c.args.rows.now c.put-2.new.rows = after (wider (LEFT ∷ RIGHT ∷ []) refl c.put.ensures.only) (wider (LEFT ∷ RIGHT ∷ []) refl c.put-2.ensures.only) in
+pub put-requires-in-Some : goal.put-requires-in-Some
+put-requires-in-Some c = let opened : Only (LEFT ∷ RIGHT ∷ []) c.args.rows.now c.put-2.new.rows = after (wider (LEFT ∷ RIGHT ∷ []) refl c.put.ensures.only) (wider (LEFT ∷ RIGHT ∷ []) refl c.put-2.ensures.only) in
     let under_top : 0 < c.loop-top.top → c.loop-top.top - 1 < length c.args.words.now = λ h. omega (arith, h, c.loop-top.invariant.0.0.count) in
     let top-at : let l = c.loop-top in Top c.args.words.now c.put-2.new.rows l.rows c.args.from l.top l.s c.cell-r.result = let o = opened in
     let p = c.requires.0 in
@@ -240,8 +252,8 @@ put-requires-then-z-eq0 c = let opened : Only (LEFT ∷ RIGHT ∷ []) c.args.row
     } in
     let picked-at : c.cell-x.result ≡ get_or (picks c.args.words.now c.loop-top.rows) c.cell-r.result 0 = c.cell-x.ensures.0 _ (in_r_in (top-at)) in
     let look_at : let l = c.loop-top in
-    Look c.args.words.now c.put-2.new.rows l.rows c.args.from l.top l.s c.cell-r.result c.cell-x.result c.lacking-k.result = record { at = top-at; ex = picked-at; op = c.lacking-k.ensures } in
-    (search rules, omega (arith, c.requires.0.grouped.small, free_in (look_at) _ c.if-k-n.true (c.cell-z.ensures.0 _ c.if-k-n.true) c.if-z-eq0.true), omega (arith, c.requires.0.grouped.small, c.if-k-n.true))
+    Look c.args.words.now c.put-2.new.rows l.rows c.args.from l.top l.s c.cell-r.result c.cell-x.result c.in-Some.k = record { at = top-at; ex = picked-at; op = seen _ c.lacking.ensures _ c.in-Some.is } in
+    (search rules, omega (arith, c.requires.0.grouped.small, free_in (look_at) _ (seen-in _ c.lacking.ensures _ c.in-Some.is) (c.cell-z.ensures.0 _ (seen-in _ c.lacking.ensures _ c.in-Some.is)) c.if-z-ne0.false), omega (arith, c.requires.0.grouped.small, (seen-in _ c.lacking.ensures _ c.in-Some.is)))
 
 pub overflow_add-top : goal.overflow_add-top
 overflow_add-top c =
@@ -260,11 +272,11 @@ overflow_add-top c =
     } in
     let picked-at : c.cell-x.result ≡ get_or (picks c.args.words.now c.loop-top.rows) c.cell-r.result 0 = c.cell-x.ensures.0 _ (in_r_in (top-at)) in
     let look_at : let l = c.loop-top in
-    Look c.args.words.now c.put-2.new.rows l.rows c.args.from l.top l.s c.cell-r.result c.cell-x.result c.lacking-k.result = record { at = top-at; ex = picked-at; op = c.lacking-k.ensures } in
-    omega (arith, c.requires.0.grouped.small, free_in (look_at) _ c.if-k-n.true (c.cell-z.ensures.0 _ c.if-k-n.true) c.if-z-eq0.true)
+    Look c.args.words.now c.put-2.new.rows l.rows c.args.from l.top l.s c.cell-r.result c.cell-x.result c.in-Some.k = record { at = top-at; ex = picked-at; op = seen _ c.lacking.ensures _ c.in-Some.is } in
+    omega (arith, c.requires.0.grouped.small, free_in (look_at) _ (seen-in _ c.lacking.ensures _ c.in-Some.is) (c.cell-z.ensures.0 _ (seen-in _ c.lacking.ensures _ c.in-Some.is)) c.if-z-ne0.false)
 
-pub put-requires-then-z-eq0-2 : goal.put-requires-then-z-eq0-2
-put-requires-then-z-eq0-2 c = let opened : Only (LEFT ∷ RIGHT ∷ []) c.args.rows.now c.put-2.new.rows = after (wider (LEFT ∷ RIGHT ∷ []) refl c.put.ensures.only) (wider (LEFT ∷ RIGHT ∷ []) refl c.put-2.ensures.only) in
+pub put-requires-in-Some-2 : goal.put-requires-in-Some-2
+put-requires-in-Some-2 c = let opened : Only (LEFT ∷ RIGHT ∷ []) c.args.rows.now c.put-2.new.rows = after (wider (LEFT ∷ RIGHT ∷ []) refl c.put.ensures.only) (wider (LEFT ∷ RIGHT ∷ []) refl c.put-2.ensures.only) in
     let under_top : 0 < c.loop-top.top → c.loop-top.top - 1 < length c.args.words.now = λ h. omega (arith, h, c.loop-top.invariant.0.0.count) in
     let top-at : let l = c.loop-top in Top c.args.words.now c.put-2.new.rows l.rows c.args.from l.top l.s c.cell-r.result = let o = opened in
     let p = c.requires.0 in
@@ -279,11 +291,11 @@ put-requires-then-z-eq0-2 c = let opened : Only (LEFT ∷ RIGHT ∷ []) c.args.r
     } in
     let picked-at : c.cell-x.result ≡ get_or (picks c.args.words.now c.loop-top.rows) c.cell-r.result 0 = c.cell-x.ensures.0 _ (in_r_in (top-at)) in
     let look_at : let l = c.loop-top in
-    Look c.args.words.now c.put-2.new.rows l.rows c.args.from l.top l.s c.cell-r.result c.cell-x.result c.lacking-k.result = record { at = top-at; ex = picked-at; op = c.lacking-k.ensures } in
-    (search rules, omega (arith, c.requires.0.grouped.small, c.if-k-n.true), omega (arith, c.requires.0.grouped.small, free_in (look_at) _ c.if-k-n.true (c.cell-z.ensures.0 _ c.if-k-n.true) c.if-z-eq0.true))
+    Look c.args.words.now c.put-2.new.rows l.rows c.args.from l.top l.s c.cell-r.result c.cell-x.result c.in-Some.k = record { at = top-at; ex = picked-at; op = seen _ c.lacking.ensures _ c.in-Some.is } in
+    (search rules, omega (arith, c.requires.0.grouped.small, (seen-in _ c.lacking.ensures _ c.in-Some.is)), omega (arith, c.requires.0.grouped.small, free_in (look_at) _ (seen-in _ c.lacking.ensures _ c.in-Some.is) (c.cell-z.ensures.0 _ (seen-in _ c.lacking.ensures _ c.in-Some.is)) c.if-z-ne0.false))
 
-pub loop-top-smaller-then-z-eq0 : goal.loop-top-smaller-then-z-eq0
-loop-top-smaller-then-z-eq0 c =
+pub loop-top-smaller-in-Some : goal.loop-top-smaller-in-Some
+loop-top-smaller-in-Some c =
     let opened : Only (LEFT ∷ RIGHT ∷ []) c.args.rows.now c.put-2.new.rows = after (wider (LEFT ∷ RIGHT ∷ []) refl c.put.ensures.only) (wider (LEFT ∷ RIGHT ∷ []) refl c.put-2.ensures.only) in
     let under_top : 0 < c.loop-top.top → c.loop-top.top - 1 < length c.args.words.now = λ h. omega (arith, h, c.loop-top.invariant.0.0.count) in
     let top-at : let l = c.loop-top in Top c.args.words.now c.put-2.new.rows l.rows c.args.from l.top l.s c.cell-r.result = let o = opened in
@@ -299,11 +311,11 @@ loop-top-smaller-then-z-eq0 c =
     } in
     let picked-at : c.cell-x.result ≡ get_or (picks c.args.words.now c.loop-top.rows) c.cell-r.result 0 = c.cell-x.ensures.0 _ (in_r_in (top-at)) in
     let look_at : let l = c.loop-top in
-    Look c.args.words.now c.put-2.new.rows l.rows c.args.from l.top l.s c.cell-r.result c.cell-x.result c.lacking-k.result = record { at = top-at; ex = picked-at; op = c.lacking-k.ensures } in
-    omega (arith, smaller_in (look_at) _ c.if-k-n.true (c.cell-z.ensures.0 _ c.if-k-n.true) c.if-z-eq0.true _ _ c.put-then-z-eq0.ensures c.put-then-z-eq0-2.ensures)
+    Look c.args.words.now c.put-2.new.rows l.rows c.args.from l.top l.s c.cell-r.result c.cell-x.result c.in-Some.k = record { at = top-at; ex = picked-at; op = seen _ c.lacking.ensures _ c.in-Some.is } in
+    omega (arith, smaller_in (look_at) _ (seen-in _ c.lacking.ensures _ c.in-Some.is) (c.cell-z.ensures.0 _ (seen-in _ c.lacking.ensures _ c.in-Some.is)) c.if-z-ne0.false _ _ c.put-in-Some.ensures c.put-in-Some-2.ensures)
 
-pub loop-top-preserved-then-z-eq0 : goal.loop-top-preserved-then-z-eq0
-loop-top-preserved-then-z-eq0 c =
+pub loop-top-preserved-in-Some : goal.loop-top-preserved-in-Some
+loop-top-preserved-in-Some c =
     let opened : Only (LEFT ∷ RIGHT ∷ []) c.args.rows.now c.put-2.new.rows = after (wider (LEFT ∷ RIGHT ∷ []) refl c.put.ensures.only) (wider (LEFT ∷ RIGHT ∷ []) refl c.put-2.ensures.only) in
     let under_top : 0 < c.loop-top.top → c.loop-top.top - 1 < length c.args.words.now = λ h. omega (arith, h, c.loop-top.invariant.0.0.count) in
     let top-at : let l = c.loop-top in Top c.args.words.now c.put-2.new.rows l.rows c.args.from l.top l.s c.cell-r.result = let o = opened in
@@ -319,11 +331,11 @@ loop-top-preserved-then-z-eq0 c =
     } in
     let picked-at : c.cell-x.result ≡ get_or (picks c.args.words.now c.loop-top.rows) c.cell-r.result 0 = c.cell-x.ensures.0 _ (in_r_in (top-at)) in
     let look_at : let l = c.loop-top in
-    Look c.args.words.now c.put-2.new.rows l.rows c.args.from l.top l.s c.cell-r.result c.cell-x.result c.lacking-k.result = record { at = top-at; ex = picked-at; op = c.lacking-k.ensures } in
-    (pushes_in (look_at) _ c.if-k-n.true (c.cell-z.ensures.0 _ c.if-k-n.true) c.if-z-eq0.true _ _ c.put-then-z-eq0.ensures c.put-then-z-eq0-2.ensures, search rules, after c.loop-top.invariant.2 (after (wider (LEFT ∷ RIGHT ∷ RANK ∷ []) refl c.put-then-z-eq0.ensures.only) (wider (LEFT ∷ RIGHT ∷ RANK ∷ []) refl c.put-then-z-eq0-2.ensures.only)))
+    Look c.args.words.now c.put-2.new.rows l.rows c.args.from l.top l.s c.cell-r.result c.cell-x.result c.in-Some.k = record { at = top-at; ex = picked-at; op = seen _ c.lacking.ensures _ c.in-Some.is } in
+    (pushes_in (look_at) _ (seen-in _ c.lacking.ensures _ c.in-Some.is) (c.cell-z.ensures.0 _ (seen-in _ c.lacking.ensures _ c.in-Some.is)) c.if-z-ne0.false _ _ c.put-in-Some.ensures c.put-in-Some-2.ensures, search rules, after c.loop-top.invariant.2 (after (wider (LEFT ∷ RIGHT ∷ RANK ∷ []) refl c.put-in-Some.ensures.only) (wider (LEFT ∷ RIGHT ∷ RANK ∷ []) refl c.put-in-Some-2.ensures.only)))
 
-pub returns-else-z-eq0 : goal.returns-else-z-eq0
-returns-else-z-eq0 c =
+pub returns-then-z-ne0 : goal.returns-then-z-ne0
+returns-then-z-ne0 c =
     let opened : Only (LEFT ∷ RIGHT ∷ []) c.args.rows.now c.put-2.new.rows = after (wider (LEFT ∷ RIGHT ∷ []) refl c.put.ensures.only) (wider (LEFT ∷ RIGHT ∷ []) refl c.put-2.ensures.only) in
     let under_top : 0 < c.loop-top.top → c.loop-top.top - 1 < length c.args.words.now = λ h. omega (arith, h, c.loop-top.invariant.0.0.count) in
     let top-at : let l = c.loop-top in Top c.args.words.now c.put-2.new.rows l.rows c.args.from l.top l.s c.cell-r.result = let o = opened in
@@ -339,11 +351,11 @@ returns-else-z-eq0 c =
     } in
     let picked-at : c.cell-x.result ≡ get_or (picks c.args.words.now c.loop-top.rows) c.cell-r.result 0 = c.cell-x.ensures.0 _ (in_r_in (top-at)) in
     let look_at : let l = c.loop-top in
-    Look c.args.words.now c.put-2.new.rows l.rows c.args.from l.top l.s c.cell-r.result c.cell-x.result c.lacking-k.result = record { at = top-at; ex = picked-at; op = c.lacking-k.ensures } in
-    (record { cycle = λ y. cyclic-in _ _ _ (opened) (cycles_in (look_at) _ c.if-k-n.true (c.cell-z.ensures.0 _ c.if-k-n.true) c.if-z-eq0.false); dived = λ n. absurd (n refl) }, after (wider (LEFT ∷ RIGHT ∷ RANK ∷ []) refl (opened)) c.loop-top.invariant.2)
+    Look c.args.words.now c.put-2.new.rows l.rows c.args.from l.top l.s c.cell-r.result c.cell-x.result c.in-Some.k = record { at = top-at; ex = picked-at; op = seen _ c.lacking.ensures _ c.in-Some.is } in
+    (record { known = cyclic-in _ _ _ (opened) (cycles_in (look_at) _ (seen-in _ c.lacking.ensures _ c.in-Some.is) (c.cell-z.ensures.0 _ (seen-in _ c.lacking.ensures _ c.in-Some.is)) c.if-z-ne0.true) }, after (wider (LEFT ∷ RIGHT ∷ RANK ∷ []) refl (opened)) c.loop-top.invariant.2)
 
-pub put-requires-else-k-n : goal.put-requires-else-k-n
-put-requires-else-k-n c = let opened : Only (LEFT ∷ RIGHT ∷ []) c.args.rows.now c.put-2.new.rows = after (wider (LEFT ∷ RIGHT ∷ []) refl c.put.ensures.only) (wider (LEFT ∷ RIGHT ∷ []) refl c.put-2.ensures.only) in
+pub put-requires-in-None : goal.put-requires-in-None
+put-requires-in-None c = let opened : Only (LEFT ∷ RIGHT ∷ []) c.args.rows.now c.put-2.new.rows = after (wider (LEFT ∷ RIGHT ∷ []) refl c.put.ensures.only) (wider (LEFT ∷ RIGHT ∷ []) refl c.put-2.ensures.only) in
     let under_top : 0 < c.loop-top.top → c.loop-top.top - 1 < length c.args.words.now = λ h. omega (arith, h, c.loop-top.invariant.0.0.count) in
     let top-at : let l = c.loop-top in Top c.args.words.now c.put-2.new.rows l.rows c.args.from l.top l.s c.cell-r.result = let o = opened in
     let p = c.requires.0 in
@@ -362,7 +374,7 @@ pub overflow_add-s : goal.overflow_add-s
 overflow_add-s c = omega (arith, c.requires.0.grouped.small, c.loop-top.invariant.0.0.ranked.count)
 
 pub loop-top-smaller : goal.loop-top-smaller
-loop-top-smaller c = omega (arith, ap (tally blank 0) (c.put-else-k-n.ensures.only.kept RIGHT (length c.args.words.now) refl))
+loop-top-smaller c = omega (arith, ap (tally blank 0) (c.put-in-None.ensures.only.kept RIGHT (length c.args.words.now) refl))
 
 pub loop-top-preserved : goal.loop-top-preserved
 loop-top-preserved c =
@@ -381,8 +393,8 @@ loop-top-preserved c =
     } in
     let picked-at : c.cell-x.result ≡ get_or (picks c.args.words.now c.loop-top.rows) c.cell-r.result 0 = c.cell-x.ensures.0 _ (in_r_in (top-at)) in
     let look_at : let l = c.loop-top in
-    Look c.args.words.now c.put-2.new.rows l.rows c.args.from l.top l.s c.cell-r.result c.cell-x.result c.lacking-k.result = record { at = top-at; ex = picked-at; op = c.lacking-k.ensures } in
-    (pops_in (look_at) _ c.if-k-n.false c.put-else-k-n.ensures, search rules, after c.loop-top.invariant.2 (wider (LEFT ∷ RIGHT ∷ RANK ∷ []) refl c.put-else-k-n.ensures.only))
+    Look c.args.words.now c.put-2.new.rows l.rows c.args.from l.top l.s c.cell-r.result c.cell-x.result (length c.args.words.now) = record { at = top-at; ex = picked-at; op = seen-all _ c.lacking.ensures c.in-None.is } in
+    (pops_in (look_at) _ (omega arith) c.put-in-None.ensures, search rules, after c.loop-top.invariant.2 (wider (LEFT ∷ RIGHT ∷ RANK ∷ []) refl c.put-in-None.ensures.only))
 
 pub returns : goal.returns
 returns c =

@@ -1,3 +1,4 @@
+use Rattle.std.proofs.Common.{Some}
 use Prim.Native.Nat.{ℕ, ◌<◌}
 use native.Mathlib.Omega.{arith}
 use mathlib.Core.Path.{◌≡◌, sym, ap, ◌∙◌}
@@ -26,11 +27,8 @@ module _ (w e up rank : List ℕ) (x k c i : ℕ) (se : Searched w e up rank) (h
     is : (z : ℕ) → z ≡ get_or rank r 0 → z ≡ under e up rank x i
     is z ez = ez ∙ ap (λ t. get_or rank t 0) (er ∙ ap (root up) ec)
 
-    found : (z : ℕ) → z ≡ get_or rank r 0 → z ≡ 0 → Opened w e up rank x r
-    found z ez h = record {
-      full = λ q. absurd (omega (arith, in_r, q));
-      lacking = λ q. (i, omega arith, er ∙ ap (root up) ec, sym ez ∙ h);
-    }
+    found : (z : ℕ) → z ≡ get_or rank r 0 → z ≡ 0 → Opened w e up rank x (Some r)
+    found z ez h = record { known = (in_r, (i, omega arith, er ∙ ap (root up) ec, sym ez ∙ h)) }
 
 pub loop-i-init : goal.loop-i-init
 loop-i-init c = (search rules, c.arity-k.ensures.0 ∙ ap arity_of c.word.ensures, search rules, λ j h. absurd (omega arith))
@@ -51,4 +49,4 @@ pub loop-i-preserved : goal.loop-i-preserved
 loop-i-preserved c = let a = c.args in let w = a.words.now in let e = ends w a.rows.now in let hc = in_c _ _ _ _ _ _ _ _ c.requires.1 c.requires.2 c.loop-i.invariant.1 c.loop-i.invariant.2 c.loop-i-test.true in let hr = in_r _ _ _ _ _ _ _ _ c.requires.1 c.requires.2 c.loop-i.invariant.1 c.loop-i.invariant.2 c.loop-i-test.true _ c.find-r.ensures in (omega (arith, c.loop-i-test.true), c.loop-i.invariant.1, next-argument e a.x c.loop-i.i _ _ c.loop-i.invariant.2 (c.cell-c.ensures.0 _ hc), below_more (λ j. 0 < under e (ups w a.rows.now) (ranks w a.rows.now) a.x j) c.loop-i.i c.loop-i.invariant.3 (let z = is _ _ _ _ _ _ _ _ c.requires.1 c.requires.2 c.loop-i.invariant.1 c.loop-i.invariant.2 c.loop-i-test.true _ c.find-r.ensures _ (c.cell-z.ensures.0 _ hr) in omega (arith, z, c.if-z-eq0.false)))
 
 pub returns : goal.returns
-returns c = record { full = λ q i h. c.loop-i.invariant.3 i (omega (arith, h, c.loop-i.invariant.1, c.loop-i-test.false)); lacking = λ q. absurd (omega (arith, q)) }
+returns c = record { known = λ i h. c.loop-i.invariant.3 i (omega (arith, h, c.loop-i.invariant.1, c.loop-i-test.false)) }

@@ -1,3 +1,4 @@
+use Rattle.std.proofs.Common.{Option, None, Some}
 use Prim.Native.Nat.{ℕ, ◌+◌, ◌<◌, ◌≤◌}
 use native.Mathlib.Omega.{arith}
 use mathlib.Core.Path.{◌≡◌, refl}
@@ -30,24 +31,24 @@ module _ (w rows₀ rows : List ℕ) (s r : ℕ) (se : Search w rows₀ 1) (h : 
     dive = rw (o.kept END (length w) refl, o.kept UP (length w) refl, o.kept PICK (length w) refl) h.1;
   }
 
-  module _ (t : ℕ) (z : List ℕ) (f : Found w rows r t z) where
-    turn_in : r < length w → (t ≡ 65535 → ⊥) → Held w (ends w rows₀) (ups w rows₀) (picks w rows₀) (ranks w z) (lefts w z) (rights w z) t (r + 1)
-    turn_in l n = turn w (ends w rows₀) (ups w rows₀) (picks w rows₀) (ranks w rows) (lefts w rows) (rights w rows) s r (ranks w z) (lefts w z) (rights w z) t l h (rw (o.kept END (length w) refl, o.kept UP (length w) refl, o.kept PICK (length w) refl) at (f.dived n))
+  module _ (o' : Option ℕ) (z : List ℕ) (f : Found w rows r o' z) where
+    turn_in : r < length w → (t : ℕ) → o' ≡ Some t → Held w (ends w rows₀) (ups w rows₀) (picks w rows₀) (ranks w z) (lefts w z) (rights w z) t (r + 1)
+    turn_in l t e = turn w (ends w rows₀) (ups w rows₀) (picks w rows₀) (ranks w rows) (lefts w rows) (rights w rows) s r (ranks w z) (lefts w z) (rights w z) t l h (rw (o.kept END (length w) refl, o.kept UP (length w) refl, o.kept PICK (length w) refl) at (rw e at f.known))
 
-    stop : t ≡ 65535 → Cyclic w (ends w rows₀) (ups w rows₀)
-    stop e = rw (o.kept END (length w) refl, o.kept UP (length w) refl) at (f.cycle e)
+    stop : o' ≡ None → Cyclic w (ends w rows₀) (ups w rows₀)
+    stop e = rw (o.kept END (length w) refl, o.kept UP (length w) refl) at (rw e at f.known)
 
 pub loop-r-init : goal.loop-r-init
 loop-r-init c = ((search rules, c.requires.dive, λ q h. absurd (omega arith)), search rules, same)
 
-pub visit-s-requires : goal.visit-s-requires
-visit-s-requires c = (anew _ _ _ _ _ c.requires c.loop-r.invariant.0 c.loop-r.invariant.2, c.loop-r-test.true)
+pub visit-requires : goal.visit-requires
+visit-requires c = (anew _ _ _ _ _ c.requires c.loop-r.invariant.0 c.loop-r.invariant.2, c.loop-r-test.true)
 
-pub returns-then-s-eq-CLASH : goal.returns-then-s-eq-CLASH
-returns-then-s-eq-CLASH c = (stop _ _ _ _ _ c.requires c.loop-r.invariant.0 c.loop-r.invariant.2 _ _ c.visit-s.ensures.0 c.if-s-eq-CLASH.true, after c.loop-r.invariant.2 c.visit-s.ensures.1)
+pub returns-in_default : goal.returns-in_default
+returns-in_default c = (stop _ _ _ _ _ c.requires c.loop-r.invariant.0 c.loop-r.invariant.2 _ _ c.visit.ensures.0 c.in_default.is, after c.loop-r.invariant.2 c.visit.ensures.1)
 
 pub loop-r-preserved : goal.loop-r-preserved
-loop-r-preserved c = (turn_in _ _ _ _ _ c.requires c.loop-r.invariant.0 c.loop-r.invariant.2 _ _ c.visit-s.ensures.0 c.loop-r-test.true c.if-s-eq-CLASH.false, search rules, after c.loop-r.invariant.2 c.visit-s.ensures.1)
+loop-r-preserved c = (turn_in _ _ _ _ _ c.requires c.loop-r.invariant.0 c.loop-r.invariant.2 _ _ c.visit.ensures.0 c.loop-r-test.true _ c.in-Some.is, search rules, after c.loop-r.invariant.2 c.visit.ensures.1)
 
 pub returns : goal.returns
 returns c = (finish _ _ _ _ _ _ _ _ _ c.loop-r.invariant.0 c.loop-r-test.false, c.loop-r.invariant.2)

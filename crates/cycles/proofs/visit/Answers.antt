@@ -1,3 +1,4 @@
+use Rattle.std.proofs.Common.{Some}
 use Prim.Native.Nat.{ℕ, ◌<◌}
 use native.Mathlib.Omega.{arith}
 use mathlib.Core.Path.{◌≡◌, sym, ◌∙◌}
@@ -8,11 +9,8 @@ use Rattle.positions.specs.Tables.{ups, ranks, Search, Found}
 use borrow.Author.Rules.{rules}
 use Rattle.cycles.proofs.visit.Goals as goal
 
-idle : (w rows : List ℕ) (r stamp : ℕ) → Search w rows stamp → (get_or (ups w rows) r 0 ≡ r → 0 < get_or (ranks w rows) r 0) → Found w rows r stamp rows
-idle w rows r stamp se h = record {
-  cycle = λ y. absurd (omega (arith, y, se.dive.ranked.count, se.grouped.small));
-  dived = λ n. record { dive = se.dive; kept = λ q z. z; done = h };
-}
+idle : (w rows : List ℕ) (r stamp : ℕ) → Search w rows stamp → (get_or (ups w rows) r 0 ≡ r → 0 < get_or (ranks w rows) r 0) → Found w rows r (Some stamp) rows
+idle w rows r stamp se h = record { known = record { dive = se.dive; kept = λ q z. z; done = h } }
 
 pub cell-u-requires : goal.cell-u-requires
 cell-u-requires c = (search rules, omega (arith, c.requires.0.grouped.small, c.requires.1))

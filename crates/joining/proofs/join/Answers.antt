@@ -1,3 +1,4 @@
+use Rattle.std.proofs.Common.{Option, Some}
 use Prim.Native.Nat.{ℕ, ◌<◌}
 use native.Mathlib.Omega.{arith}
 use mathlib.Core.Path.{◌≡◌, refl, sym, ap, ◌∙◌, subst}
@@ -5,12 +6,11 @@ use mathlib.Core.List.{List, [], ◌∷◌}
 use lib.ListN.{length, get_or}
 use Rattle.words.specs.Columns.{Only, after, wider, UP, PICK, LEFT, RIGHT}
 use Rattle.positions.specs.Classes.{root, Agree, Label}
-use Rattle.positions.specs.Steps.{Flat, State, state, Ready, Outcome}
+use Rattle.positions.specs.Steps.{Flat, State, state, Ready, Step, Outcome}
 use Rattle.positions.specs.Tables.{ups, picks, lefts, rights, state_in}
 use Rattle.positions.specs.RootLaws.{root_fix, root_le}
 use Rattle.joining.proofs.Flats.{flat_trans, flat-ready, flat-outcome, agree-back}
 use Rattle.joining.proofs.Stepping.{outcome_restated, stays}
-use borrow.Author.Rules.{rules}
 use Rattle.joining.proofs.join.Goals as goal
 
 -- u is up after the first way, and v after the second
@@ -42,17 +42,17 @@ module _ (w up u v pick left right : List ℕ) (tail p q a b : ℕ) (pre : Ready
   at_b : (f : Label) → Agree f up → f q ≡ f b
   at_b f g = g q (omega (arith, pre.0.grouped.up_length, pre.2)) ∙ ap f (sym eb)
 
-  told : (z : State) → Outcome w (state v pick left right tail) (λ f. f a ≡ f b) z → Outcome w (state up pick left right tail) (λ f. f p ≡ f q) z
-  told z o = outcome_restated w (state up pick left right tail) z (λ f. f a ≡ f b) (λ f. f p ≡ f q)
-      (λ f g e. at_first f g ∙ e ∙ sym (at_b f g)) (λ f g e. sym (at_first f g) ∙ e ∙ at_b f g) (flat-outcome w up v pick left right tail flat (λ f. f a ≡ f b) z o)
+  told : (z : ℕ → State) (r : Option ℕ) → Outcome w (state v pick left right tail) (λ f. f a ≡ f b) z r → Outcome w (state up pick left right tail) (λ f. f p ≡ f q) z r
+  told z r o = outcome_restated w (state up pick left right tail) z r (λ f. f a ≡ f b) (λ f. f p ≡ f q)
+      (λ f g e. at_first f g ∙ e ∙ sym (at_b f g)) (λ f g e. sym (at_first f g) ∙ e ∙ at_b f g) (flat-outcome w up v pick left right tail flat (λ f. f a ≡ f b) z r o)
 
-  told' : (z : State) → Outcome w (state v pick left right tail) (λ f. f b ≡ f a) z → Outcome w (state up pick left right tail) (λ f. f p ≡ f q) z
-  told' z o = outcome_restated w (state up pick left right tail) z (λ f. f b ≡ f a) (λ f. f p ≡ f q)
-      (λ f g e. at_first f g ∙ sym e ∙ sym (at_b f g)) (λ f g e. sym (sym (at_first f g) ∙ e ∙ at_b f g)) (flat-outcome w up v pick left right tail flat (λ f. f b ≡ f a) z o)
+  told' : (z : ℕ → State) (r : Option ℕ) → Outcome w (state v pick left right tail) (λ f. f b ≡ f a) z r → Outcome w (state up pick left right tail) (λ f. f p ≡ f q) z r
+  told' z r o = outcome_restated w (state up pick left right tail) z r (λ f. f b ≡ f a) (λ f. f p ≡ f q)
+      (λ f g e. at_first f g ∙ sym e ∙ sym (at_b f g)) (λ f g e. sym (sym (at_first f g) ∙ e ∙ at_b f g)) (flat-outcome w up v pick left right tail flat (λ f. f b ≡ f a) z r o)
 
-  one : a ≡ b → Outcome w (state up pick left right tail) (λ f. f p ≡ f q) (state v pick left right tail)
-  one e = flat-outcome w up v pick left right tail flat (λ f. f p ≡ f q) (state v pick left right tail)
-      (stays w (state v pick left right tail) (λ f. f p ≡ f q) ready (λ f g. let h = agree-back up v f flat g in at_first f h ∙ ap f e ∙ sym (at_b f h)))
+  one : a ≡ b → Outcome w (state up pick left right tail) (λ f. f p ≡ f q) (state v pick left right) (Some tail)
+  one e = flat-outcome w up v pick left right tail flat (λ f. f p ≡ f q) (state v pick left right) (Some tail)
+      (stays w (state v pick left right) tail (λ f. f p ≡ f q) ready (λ f g. let h = agree-back up v f flat g in at_first f h ∙ ap f e ∙ sym (at_b f h)))
 
 -- the same of rows: y is the storage after the first way, and z after the second
 module _ (w rows y z : List ℕ) (tail p q a b : ℕ) (pre : Ready w (state_in w rows tail) × (p < length w) × (q < length w))
@@ -74,15 +74,17 @@ module _ (w rows y z : List ℕ) (tail p q a b : ℕ) (pre : Ready w (state_in w
   asked-in' l = rw (only.kept PICK (length w) refl, only.kept LEFT (length w) refl, only.kept RIGHT (length w) refl)
       (asked' w (ups w rows) (ups w y) (ups w z) (picks w rows) (lefts w rows) (rights w rows) tail p q a b pre (ha.0, ha.1) (hb.0, hb.1) l)
 
-  told_in : (v : State) → Outcome w (state_in w z tail) (λ f. f a ≡ f b) v → Outcome w (state_in w rows tail) (λ f. f p ≡ f q) v
-  told_in v o = told w (ups w rows) (ups w y) (ups w z) (picks w rows) (lefts w rows) (rights w rows) tail p q a b pre (ha.0, ha.1) (hb.0, hb.1) v (subst (λ s. Outcome w s (λ f. f a ≡ f b) v) is o)
+  told_in : (v : ℕ → State) (r : Option ℕ) → Outcome w (state_in w z tail) (λ f. f a ≡ f b) v r → Outcome w (state_in w rows tail) (λ f. f p ≡ f q) v r
+  told_in v r o = told w (ups w rows) (ups w y) (ups w z) (picks w rows) (lefts w rows) (rights w rows) tail p q a b pre (ha.0, ha.1) (hb.0, hb.1) v r (subst (λ s. Outcome w s (λ f. f a ≡ f b) v r) is o)
 
-  told-in' : (v : State) → Outcome w (state_in w z tail) (λ f. f b ≡ f a) v → Outcome w (state_in w rows tail) (λ f. f p ≡ f q) v
-  told-in' v o = told' w (ups w rows) (ups w y) (ups w z) (picks w rows) (lefts w rows) (rights w rows) tail p q a b pre (ha.0, ha.1) (hb.0, hb.1) v (subst (λ s. Outcome w s (λ f. f b ≡ f a) v) is o)
+  told-in' : (v : ℕ → State) (r : Option ℕ) → Outcome w (state_in w z tail) (λ f. f b ≡ f a) v r → Outcome w (state_in w rows tail) (λ f. f p ≡ f q) v r
+  told-in' v r o = told' w (ups w rows) (ups w y) (ups w z) (picks w rows) (lefts w rows) (rights w rows) tail p q a b pre (ha.0, ha.1) (hb.0, hb.1) v r (subst (λ s. Outcome w s (λ f. f b ≡ f a) v r) is o)
 
-  one_in : a ≡ b → Outcome w (state_in w rows tail) (λ f. f p ≡ f q) (state_in w z tail)
-  one_in e = subst (λ s. Outcome w (state_in w rows tail) (λ f. f p ≡ f q) s) (sym is)
-      (one w (ups w rows) (ups w y) (ups w z) (picks w rows) (lefts w rows) (rights w rows) tail p q a b pre (ha.0, ha.1) (hb.0, hb.1) e)
+  one_in : a ≡ b → Outcome w (state_in w rows tail) (λ f. f p ≡ f q) (state_in w z) (Some tail)
+  one_in e = record {
+    known = subst (Step w (state_in w rows tail) (λ f. f p ≡ f q)) (sym is)
+        (one w (ups w rows) (ups w y) (ups w z) (picks w rows) (lefts w rows) (rights w rows) tail p q a b pre (ha.0, ha.1) (hb.0, hb.1) e).known;
+  }
 
 pub seek-a-requires : goal.seek-a-requires
 seek-a-requires c = (c.requires.0.grouped.small, c.requires.1, c.requires.0.grouped.down)
@@ -94,13 +96,13 @@ pub link-requires : goal.link-requires
 link-requires c = let h = asked_in _ _ _ _ _ _ _ _ _ (c.requires.0, c.requires.1, c.requires.2) c.seek-a.ensures c.seek-b.ensures c.if-a-b.true in (h.0, h.1, h.2, h.3, h.4)
 
 pub returns-then-a-b : goal.returns-then-a-b
-returns-then-a-b c = (told_in _ _ _ _ _ _ _ _ _ (c.requires.0, c.requires.1, c.requires.2) c.seek-a.ensures c.seek-b.ensures _ c.link.ensures.0, after (changes _ _ _ _ _ _ _ _ _ (c.requires.0, c.requires.1, c.requires.2) c.seek-a.ensures c.seek-b.ensures) c.link.ensures.1)
+returns-then-a-b c = (told_in _ _ _ _ _ _ _ _ _ (c.requires.0, c.requires.1, c.requires.2) c.seek-a.ensures c.seek-b.ensures _ _ c.link.ensures.0, after (changes _ _ _ _ _ _ _ _ _ (c.requires.0, c.requires.1, c.requires.2) c.seek-a.ensures c.seek-b.ensures) c.link.ensures.1)
 
 pub link-requires-then-b-a : goal.link-requires-then-b-a
 link-requires-then-b-a c = let h = asked-in' _ _ _ _ _ _ _ _ _ (c.requires.0, c.requires.1, c.requires.2) c.seek-a.ensures c.seek-b.ensures c.if-b-a.true in (h.0, h.1, h.2, h.3, h.4)
 
 pub returns-then-b-a : goal.returns-then-b-a
-returns-then-b-a c = (told-in' _ _ _ _ _ _ _ _ _ (c.requires.0, c.requires.1, c.requires.2) c.seek-a.ensures c.seek-b.ensures _ c.link-then-b-a.ensures.0, after (changes _ _ _ _ _ _ _ _ _ (c.requires.0, c.requires.1, c.requires.2) c.seek-a.ensures c.seek-b.ensures) c.link-then-b-a.ensures.1)
+returns-then-b-a c = (told-in' _ _ _ _ _ _ _ _ _ (c.requires.0, c.requires.1, c.requires.2) c.seek-a.ensures c.seek-b.ensures _ _ c.link-then-b-a.ensures.0, after (changes _ _ _ _ _ _ _ _ _ (c.requires.0, c.requires.1, c.requires.2) c.seek-a.ensures c.seek-b.ensures) c.link-then-b-a.ensures.1)
 
 pub returns : goal.returns
 returns c = (one_in _ _ _ _ _ _ _ _ _ (c.requires.0, c.requires.1, c.requires.2) c.seek-a.ensures c.seek-b.ensures (omega (arith, c.if-b-a.false, c.if-a-b.false)), changes _ _ _ _ _ _ _ _ _ (c.requires.0, c.requires.1, c.requires.2) c.seek-a.ensures c.seek-b.ensures)

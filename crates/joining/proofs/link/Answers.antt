@@ -1,3 +1,4 @@
+use Rattle.std.proofs.Common.{None, Some}
 use Prim.Native.Nat.{ℕ, ◌+◌, ◌/◌, ◌<◌}
 use native.Mathlib.Omega.{arith}
 use mathlib.Core.Path.{◌≡◌, refl, sym, ap, ◌∙◌}
@@ -28,28 +29,24 @@ module _ (w up pick left right : List ℕ) (tail a b x y : ℕ) (pre : Ready w (
     ev' : v ≡ get_or w (get_or pick b 0) 0
     ev' = ev ∙ ap (λ z. get_or w z 0) ey
 
-    one : v / 16777216 ≡ 1 → Outcome w (state up pick left right tail) (λ f. f a ≡ f b) (state (set up b a) pick left right tail)
+    one : v / 16777216 ≡ 1 → Outcome w (state up pick left right tail) (λ f. f a ≡ f b) (state (set up b a) pick left right) (Some tail)
     one k = record {
-      clash = λ z. absurd (omega (arith, free, pre.0.grouped.small));
-      step = λ n. bare-b w up pick left right tail a b pre.0 pre.1 pre.2 pre.3 pre.4 (λ p. p (ap (λ z. z / 16777216) (sym ev') ∙ k));
+      known = bare-b w up pick left right tail a b pre.0 pre.1 pre.2 pre.3 pre.4 (λ p. p (ap (λ z. z / 16777216) (sym ev') ∙ k));
     }
 
-    two : u / 16777216 ≡ 1 → Outcome w (state up pick left right tail) (λ f. f a ≡ f b) (state (set up b a) (set pick a y) left right tail)
+    two : u / 16777216 ≡ 1 → Outcome w (state up pick left right tail) (λ f. f a ≡ f b) (state (set up b a) (set pick a y) left right) (Some tail)
     two k = record {
-      clash = λ z. absurd (omega (arith, free, pre.0.grouped.small));
-      step = λ n. rw ey (bare-a w up pick left right tail a b pre.0 pre.1 pre.2 pre.3 pre.4 (λ p. p (ap (λ z. z / 16777216) (sym eu') ∙ k)));
+      known = rw ey (bare-a w up pick left right tail a b pre.0 pre.1 pre.2 pre.3 pre.4 (λ p. p (ap (λ z. z / 16777216) (sym eu') ∙ k)));
     }
 
-    three : (u / 16777216 ≡ 1 → ⊥) → u ≡ v → Outcome w (state up pick left right tail) (λ f. f a ≡ f b) (state (set up b a) pick (set left tail x) (set right tail y) (tail + 1))
+    three : (u / 16777216 ≡ 1 → ⊥) → u ≡ v → Outcome w (state up pick left right tail) (λ f. f a ≡ f b) (state (set up b a) pick (set left tail x) (set right tail y)) (Some (tail + 1))
     three k e = record {
-      clash = λ z. absurd (omega (arith, free, pre.0.grouped.small));
-      step = λ n. rw (ex, ey) (both w up pick left right tail a b pre.0 pre.1 pre.2 pre.3 pre.4 (λ z. k (ap (λ z. z / 16777216) eu' ∙ z)) (sym eu' ∙ e ∙ ev'));
+      known = rw (ex, ey) (both w up pick left right tail a b pre.0 pre.1 pre.2 pre.3 pre.4 (λ z. k (ap (λ z. z / 16777216) eu' ∙ z)) (sym eu' ∙ e ∙ ev'));
     }
 
-    four : (u / 16777216 ≡ 1 → ⊥) → (v / 16777216 ≡ 1 → ⊥) → (u ≡ v → ⊥) → Outcome w (state up pick left right tail) (λ f. f a ≡ f b) (state (set up b a) pick left right 65535)
+    four : (u / 16777216 ≡ 1 → ⊥) → (v / 16777216 ≡ 1 → ⊥) → (u ≡ v → ⊥) → Outcome w (state up pick left right tail) (λ f. f a ≡ f b) (state (set up b a) pick left right) None
     four ku kv e = record {
-      clash = λ z. differ w up pick left right tail a b pre.0 pre.1 pre.2 pre.3 pre.4 (λ z. ku (ap (λ z. z / 16777216) eu' ∙ z)) (λ z. kv (ap (λ z. z / 16777216) ev' ∙ z)) (λ z. e (eu' ∙ z ∙ sym ev'));
-      step = λ n. absurd (n refl);
+      known = differ w up pick left right tail a b pre.0 pre.1 pre.2 pre.3 pre.4 (λ z. ku (ap (λ z. z / 16777216) eu' ∙ z)) (λ z. kv (ap (λ z. z / 16777216) ev' ∙ z)) (λ z. e (eu' ∙ z ∙ sym ev'));
     }
 
 -- the same of rows, and what the stores leave
@@ -73,24 +70,24 @@ module _ {w rows : List ℕ} {tail a b x y : ℕ} (l : Linking w rows tail a b x
     changes = wider (UP ∷ PICK ∷ LEFT ∷ RIGHT ∷ []) refl s.only
 
     module _ {u v : ℕ} (eu : u ≡ get_or w x 0) (ev : v ≡ get_or w y 0) where
-      one_in : v / 16777216 ≡ 1 → Outcome w (state_in w rows tail) (λ f. f a ≡ f b) (state_in w z tail)
-      one_in k = rw (s.here (length w), s.only.kept PICK (length w) refl, s.only.kept LEFT (length w) refl, s.only.kept RIGHT (length w) refl) (one w (ups w rows) (picks w rows) (lefts w rows) (rights w rows) tail a b x y l.pre l.ex l.ey u v eu ev k)
+      one_in : v / 16777216 ≡ 1 → Outcome w (state_in w rows tail) (λ f. f a ≡ f b) (state_in w z) (Some tail)
+      one_in k = record { known = rw (s.here (length w), s.only.kept PICK (length w) refl, s.only.kept LEFT (length w) refl, s.only.kept RIGHT (length w) refl) (one w (ups w rows) (picks w rows) (lefts w rows) (rights w rows) tail a b x y l.pre l.ex l.ey u v eu ev k).known }
 
-      two_in : (q : List ℕ) → Put PICK a y z q → u / 16777216 ≡ 1 → Outcome w (state_in w rows tail) (λ f. f a ≡ f b) (state_in w q tail) × Only (UP ∷ PICK ∷ LEFT ∷ RIGHT ∷ []) rows q
+      two_in : (q : List ℕ) → Put PICK a y z q → u / 16777216 ≡ 1 → Outcome w (state_in w rows tail) (λ f. f a ≡ f b) (state_in w q) (Some tail) × Only (UP ∷ PICK ∷ LEFT ∷ RIGHT ∷ []) rows q
       two_in q p k = (
-        rw (p.here (length w), p.only.kept UP (length w) refl, p.only.kept LEFT (length w) refl, p.only.kept RIGHT (length w) refl) (rw (s.here (length w), s.only.kept PICK (length w) refl, s.only.kept LEFT (length w) refl, s.only.kept RIGHT (length w) refl) (two w (ups w rows) (picks w rows) (lefts w rows) (rights w rows) tail a b x y l.pre l.ex l.ey u v eu ev k)),
+        record { known = rw (p.here (length w), p.only.kept UP (length w) refl, p.only.kept LEFT (length w) refl, p.only.kept RIGHT (length w) refl) (rw (s.here (length w), s.only.kept PICK (length w) refl, s.only.kept LEFT (length w) refl, s.only.kept RIGHT (length w) refl) (two w (ups w rows) (picks w rows) (lefts w rows) (rights w rows) tail a b x y l.pre l.ex l.ey u v eu ev k).known) },
         after changes (wider (UP ∷ PICK ∷ LEFT ∷ RIGHT ∷ []) refl p.only),
       )
 
       three-in : (p q : List ℕ) → Put LEFT tail x z p → Put RIGHT tail y p q → (u / 16777216 ≡ 1 → ⊥) → u ≡ v
-          → Outcome w (state_in w rows tail) (λ f. f a ≡ f b) (state_in w q (tail + 1)) × Only (UP ∷ PICK ∷ LEFT ∷ RIGHT ∷ []) rows q
+          → Outcome w (state_in w rows tail) (λ f. f a ≡ f b) (state_in w q) (Some (tail + 1)) × Only (UP ∷ PICK ∷ LEFT ∷ RIGHT ∷ []) rows q
       three-in p q c d k e = (
-        rw (d.here (length w), d.only.kept UP (length w) refl, d.only.kept PICK (length w) refl, d.only.kept LEFT (length w) refl) (rw (c.here (length w), c.only.kept UP (length w) refl, c.only.kept PICK (length w) refl, c.only.kept RIGHT (length w) refl) (rw (s.here (length w), s.only.kept PICK (length w) refl, s.only.kept LEFT (length w) refl, s.only.kept RIGHT (length w) refl) (three w (ups w rows) (picks w rows) (lefts w rows) (rights w rows) tail a b x y l.pre l.ex l.ey u v eu ev k e))),
+        record { known = rw (d.here (length w), d.only.kept UP (length w) refl, d.only.kept PICK (length w) refl, d.only.kept LEFT (length w) refl) (rw (c.here (length w), c.only.kept UP (length w) refl, c.only.kept PICK (length w) refl, c.only.kept RIGHT (length w) refl) (rw (s.here (length w), s.only.kept PICK (length w) refl, s.only.kept LEFT (length w) refl, s.only.kept RIGHT (length w) refl) (three w (ups w rows) (picks w rows) (lefts w rows) (rights w rows) tail a b x y l.pre l.ex l.ey u v eu ev k e).known)) },
         after changes (after (wider (UP ∷ PICK ∷ LEFT ∷ RIGHT ∷ []) refl c.only) (wider (UP ∷ PICK ∷ LEFT ∷ RIGHT ∷ []) refl d.only)),
       )
 
-      four-in : (u / 16777216 ≡ 1 → ⊥) → (v / 16777216 ≡ 1 → ⊥) → (u ≡ v → ⊥) → Outcome w (state_in w rows tail) (λ f. f a ≡ f b) (state_in w z 65535)
-      four-in ku kv e = rw (s.here (length w), s.only.kept PICK (length w) refl, s.only.kept LEFT (length w) refl, s.only.kept RIGHT (length w) refl) (four w (ups w rows) (picks w rows) (lefts w rows) (rights w rows) tail a b x y l.pre l.ex l.ey u v eu ev ku kv e)
+      four-in : (u / 16777216 ≡ 1 → ⊥) → (v / 16777216 ≡ 1 → ⊥) → (u ≡ v → ⊥) → Outcome w (state_in w rows tail) (λ f. f a ≡ f b) (state_in w z) None
+      four-in ku kv e = record { known = (four w (ups w rows) (picks w rows) (lefts w rows) (rights w rows) tail a b x y l.pre l.ex l.ey u v eu ev ku kv e).known }
 
 pub word-u-requires : goal.word-u-requires
 word-u-requires c = x_in_in ((let here : let a = c.args in Linking a.words.now a.rows.now a.tail a.a a.b c.cell-x.result c.cell-y.result = let q = c.requires in record { pre = (q.0, q.1, q.2, q.3, q.4); ex = c.cell-x.ensures.0 _ (omega arith); ey = c.cell-y.ensures.0 _ q.2 } in here))

@@ -1,3 +1,4 @@
+use Rattle.std.proofs.Common.{Some}
 use Prim.Native.Nat.{ℕ, ◌+◌, ◌<◌}
 use native.Mathlib.Omega.{arith}
 use mathlib.Core.Path.{◌≡◌, refl, sym, ap, ◌∙◌}
@@ -32,20 +33,17 @@ module _ (w e : List ℕ) (x y i k c d : ℕ) (ends : Ends w e) (hx : x < length
   in_d : d < length w
   in_d = rw ed ((ends y hy).inside i (omega (arith, ap arity_of ew)))
 
-finish : (w e : List ℕ) (s z : State) (x y i k : ℕ) → i ≡ k → Step w s (λ f. Args f e i x y) z → Outcome w s (λ f. Args f e k x y) z
-finish w e s z x y i k q t = record {
-  clash = λ h. absurd (omega (arith, t.ready.count, t.ready.grouped.small, h));
-  step = λ n. rw (← q) t;
-}
+finish : (w e : List ℕ) (s : State) (z : ℕ → State) (n x y i k : ℕ) → i ≡ k → Step w s (λ f. Args f e i x y) (z n) → Outcome w s (λ f. Args f e k x y) z (Some n)
+finish w e s z n x y i k q t = record { known = rw (← q) t }
 
 pub loop-i-init : goal.loop-i-init
 loop-i-init c = (search rules, c.arity-k.ensures.0 ∙ ap arity_of c.word.ensures, search rules, search rules, idle _ _ _ c.requires.0 (λ f g j h. absurd (omega arith)), search rules, same)
 
-pub join-t-requires : goal.join-t-requires
-join-t-requires c = (c.loop-i.invariant.4.ready, in_c _ _ _ _ _ _ _ _ c.requires.1 c.requires.2 c.requires.3 c.requires.4 c.loop-i.invariant.1 c.loop-i-test.true c.loop-i.invariant.2 c.loop-i.invariant.3, in_d _ _ _ _ _ _ _ _ c.requires.1 c.requires.2 c.requires.3 c.requires.4 c.loop-i.invariant.1 c.loop-i-test.true c.loop-i.invariant.2 c.loop-i.invariant.3)
+pub join-requires : goal.join-requires
+join-requires c = (c.loop-i.invariant.4.ready, in_c _ _ _ _ _ _ _ _ c.requires.1 c.requires.2 c.requires.3 c.requires.4 c.loop-i.invariant.1 c.loop-i-test.true c.loop-i.invariant.2 c.loop-i.invariant.3, in_d _ _ _ _ _ _ _ _ c.requires.1 c.requires.2 c.requires.3 c.requires.4 c.loop-i.invariant.1 c.loop-i-test.true c.loop-i.invariant.2 c.loop-i.invariant.3)
 
-pub returns-then-t-eq-CLASH : goal.returns-then-t-eq-CLASH
-returns-then-t-eq-CLASH c = (record { clash = λ z. fails _ _ _ _ (state [] [] [] [] 0) _ _ _ _ _ _ c.loop-i.invariant.2 c.loop-i.invariant.3 c.loop-i.invariant.4 (omega (arith, c.loop-i.invariant.1, c.loop-i-test.true)) (c.join-t.ensures.0.clash c.if-t-eq-CLASH.true); step = λ n. absurd (n refl) }, after c.loop-i.invariant.6 c.join-t.ensures.1)
+pub returns-in_err-t : goal.returns-in_err-t
+returns-in_err-t c = (record { known = rw c.from_residual.ensures (fails _ _ _ _ (state [] [] [] [] 0) _ _ _ _ _ _ c.loop-i.invariant.2 c.loop-i.invariant.3 c.loop-i.invariant.4 (omega (arith, c.loop-i.invariant.1, c.loop-i-test.true)) (rw c.in_err-t.was at c.join.ensures.0.known)) }, after c.loop-i.invariant.6 c.join.ensures.1)
 
 pub cell-c-requires : goal.cell-c-requires
 cell-c-requires c = (search rules, omega (arith, c.requires.0.grouped.small, in_c _ _ _ _ _ _ _ _ c.requires.1 c.requires.2 c.requires.3 c.requires.4 c.loop-i.invariant.1 c.loop-i-test.true c.loop-i.invariant.2 c.loop-i.invariant.3))
@@ -54,7 +52,7 @@ pub cell-d-requires : goal.cell-d-requires
 cell-d-requires c = (search rules, omega (arith, c.requires.0.grouped.small, in_d _ _ _ _ _ _ _ _ c.requires.1 c.requires.2 c.requires.3 c.requires.4 c.loop-i.invariant.1 c.loop-i-test.true c.loop-i.invariant.2 c.loop-i.invariant.3))
 
 pub loop-i-preserved : goal.loop-i-preserved
-loop-i-preserved c = let o = after c.loop-i.invariant.6 c.join-t.ensures.1 in let w = c.args.words.now in let e = ends w c.args.rows.now in (search rules, c.loop-i.invariant.1, next-argument e c.args.x c.loop-i.i _ _ c.loop-i.invariant.2 (c.cell-c.ensures.0 _ (in_c _ _ _ _ _ _ _ _ c.requires.1 c.requires.2 c.requires.3 c.requires.4 c.loop-i.invariant.1 c.loop-i-test.true c.loop-i.invariant.2 c.loop-i.invariant.3) ∙ ap (λ l. get_or l c.loop-i.c 0) (o.kept END (length w) refl)), next-argument e c.args.y c.loop-i.i _ _ c.loop-i.invariant.3 (c.cell-d.ensures.0 _ (in_d _ _ _ _ _ _ _ _ c.requires.1 c.requires.2 c.requires.3 c.requires.4 c.loop-i.invariant.1 c.loop-i-test.true c.loop-i.invariant.2 c.loop-i.invariant.3) ∙ ap (λ l. get_or l c.loop-i.d 0) (o.kept END (length w) refl)), again _ _ _ _ _ _ _ _ _ _ 0 c.loop-i.invariant.2 c.loop-i.invariant.3 c.loop-i.invariant.4 (c.join-t.ensures.0.step c.if-t-eq-CLASH.false), search rules, o)
+loop-i-preserved c = let o = after c.loop-i.invariant.6 c.join.ensures.1 in let w = c.args.words.now in let e = ends w c.args.rows.now in (search rules, c.loop-i.invariant.1, next-argument e c.args.x c.loop-i.i _ _ c.loop-i.invariant.2 (c.cell-c.ensures.0 _ (in_c _ _ _ _ _ _ _ _ c.requires.1 c.requires.2 c.requires.3 c.requires.4 c.loop-i.invariant.1 c.loop-i-test.true c.loop-i.invariant.2 c.loop-i.invariant.3) ∙ ap (λ l. get_or l c.loop-i.c 0) (o.kept END (length w) refl)), next-argument e c.args.y c.loop-i.i _ _ c.loop-i.invariant.3 (c.cell-d.ensures.0 _ (in_d _ _ _ _ _ _ _ _ c.requires.1 c.requires.2 c.requires.3 c.requires.4 c.loop-i.invariant.1 c.loop-i-test.true c.loop-i.invariant.2 c.loop-i.invariant.3) ∙ ap (λ l. get_or l c.loop-i.d 0) (o.kept END (length w) refl)), again _ _ _ _ _ _ _ _ _ _ 0 c.loop-i.invariant.2 c.loop-i.invariant.3 c.loop-i.invariant.4 (rw c.in_ok-t.was at c.join.ensures.0.known), search rules, o)
 
 pub returns : goal.returns
-returns c = (finish _ _ _ _ _ _ _ _ (omega (arith, c.loop-i.invariant.1)) c.loop-i.invariant.4, c.loop-i.invariant.6)
+returns c = (finish _ _ _ _ _ _ _ _ _ (omega (arith, c.loop-i.invariant.1)) c.loop-i.invariant.4, c.loop-i.invariant.6)
