@@ -42,8 +42,7 @@ fn put_query(area: &mut [u8], nodes: &[u8], formulas: usize)
 {
     let head = [6u8, (formulas / 256) as u8, (formulas % 256) as u8];
     put_bytes(area, &head, 0, 3);
-    let rest = &mut area[3..];
-    put_bytes(rest, nodes, 0, nodes.len());
+    put_bytes(&mut area[3..], nodes, 0, nodes.len());
 }
 
 // "last 43, an area too small"
@@ -94,8 +93,7 @@ fn judge(
 {
     let d = c.draft;
     let g = c.known;
-    let end = d.len;
-    let nodes = &out[0..end];
+    let nodes = &out[..d.len];
     let k = count_kept(book, nodes);
     if k != d.formulas {
         return refusal(17, formula_at(text, k) as u32);
@@ -147,10 +145,9 @@ pub fn read_query(
     if checked.code != 0 {
         return refusal(checked.code, checked.place as u32);
     }
-    let known = known_names(names);
-    if !known.good {
+    let Some(known) = known_names(names) else {
         return refusal(45, 0);
-    }
+    };
     let found = check_text(text);
     if found.code != 0 {
         return refusal(found.code, found.place);
