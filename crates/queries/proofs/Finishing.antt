@@ -70,10 +70,10 @@ module _ (text book names table out : List ℕ) (bytes : Bytes names) (g : Known
   fs = r.laid.formulas
 
   abbrev nodes : List ℕ
-  nodes = take d.len out
+  nodes = take (d.len - 0) out
 
   nodes-laid : nodes ≡ formulas_bytes (given_from names) [] fs
-  nodes-laid = r.laid.bytes_are
+  nodes-laid = ap (λ (i : ℕ). take i out) (let z : d.len - 0 ≡ d.len = omega arith in z) ∙ r.laid.bytes_are
 
   nodes-here : nodes ≡ encode (node_records (flat (goal (given_from names) fs)))
   nodes-here = nodes-laid ∙ nodes_are text names bytes g r.knowing fs r.laid.accepted
@@ -87,7 +87,7 @@ module _ (text book names table out : List ℕ) (bytes : Bytes names) (g : Known
         goal = goal (given_from names) fs;
         good = goal-good text names bytes g r.knowing fs r.laid.accepted;
         is = nodes-here;
-        short = omega (arith, length-take-le d.len out nodes-inside, r.laid.len_low);
+        short = omega (arith, length-take-le (d.len - 0) out (omega (arith, nodes-inside)), r.laid.len_low);
       }
 
   module _ (k : ℕ) (m : Meeting.Kept book nodes k) where

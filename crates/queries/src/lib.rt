@@ -93,7 +93,8 @@ fn judge(
 {
     let d = c.draft;
     let g = c.known;
-    let nodes = &out[..d.len];
+    let end = d.len;
+    let nodes = &out[0..end];
     let k = count_kept(book, nodes);
     if k != d.formulas {
         return refusal(17, formula_at(text, k) as u32);
