@@ -19,6 +19,15 @@ use outcomes::Picked;
 use outcomes::admit::{Admitted, admit};
 use resolve::{Choice, choose};
 
+// What a pick answers (document 01, "Codes"; document 02, C-16 and C-22).
+const EMPTY: u8 = 20;
+
+const STUCK: u8 = 22;
+
+const PICKED: u8 = 25;
+
+const UNKNOWN: u8 = 26;
+
 fn refused(a: Admitted) -> Picked
     ensures { result ≡ pick_refused a }
 {
@@ -46,7 +55,7 @@ fn stuck(furthest: usize, argument: usize) -> Picked
     ensures { result ≡ picked_as (record { clause = furthest; argument = argument }) (record { code = 22; clause = 0 }) }
 {
     Picked {
-        code: 22,
+        code: STUCK,
         furthest: furthest as u32,
         argument: argument as u32,
         ..Picked::default()
@@ -65,9 +74,9 @@ fn from_formula(
     ensures { (P : Book) (f : Expr) (g : Goal) (n : ℕ) → BookOn book.now shelf.now P → GoalIn goal.now n (f ∷ g) → result ≡ pick_said P (f ∷ g) (Pick.pick P (f ∷ g)) }
 {
     match choose(book, shelf, goal, words, rows) {
-        Choice::Clause(clause) => picked(25, clause),
+        Choice::Clause(clause) => picked(PICKED, clause),
         Choice::Stuck(furthest, argument) => stuck(furthest, argument),
-        Choice::Unknown => picked(26, 0),
+        Choice::Unknown => picked(UNKNOWN, 0),
     }
 }
 
@@ -77,7 +86,7 @@ fn from_goal(book: &[u32], shelf: &[u16], goal: &[u32], formulas: usize) -> Pick
     ensures { (P : Book) (g : Goal) → BookOn book.now shelf.now P → GoalIn goal.now formulas g → result ≡ pick_said P g (Pick.pick P g) }
 {
     if formulas == 0 {
-        return picked(20, 0);
+        return picked(EMPTY, 0);
     }
     let mut words = [0u32; 8448];
     let mut rows = [0u16; 30464];
