@@ -7,6 +7,8 @@ use native.Mathlib.Omega.{arith}
 use borrow.Author.Tests.{eq-eqb, ne_eqb, lt-ltb, le-ltb}
 use lib.ListN.{length, get_or}
 use lib.Dec.{eqb}
+use Rattle.std.specs.declared.option.Option.{Option}
+use Rattle.std.specs.declared.option.Option.TheVariants.{Some, None}
 use Rattle.terms.specs.Cases.{cases}
 use Rattle.format.specs.Format.{Bytes}
 use Rattle.format.specs.Reading.{number_at}
@@ -18,7 +20,7 @@ use Rattle.namelist.specs.Meaning.{entry-is, list-means, list-stands}
 use Rattle.namelist.proofs.Walking.{More, stands_one}
 use Rattle.questions.specs.Given.{names_of}
 use Rattle.known.specs.declared.Known.{Known}
-use Rattle.known.specs.InTurn.{fits, in_turn, own_of, more_of, in_turn_of, started, refused, Low}
+use Rattle.known.specs.InTurn.{fits, in_turn, own_of, more_of, in_turn_of, Low}
 use Rattle.known.specs.TurnLaws.{own-more, not-list, gives-turn}
 use Rattle.known.specs.Known.{Turned, Knows, sought}
 
@@ -64,16 +66,20 @@ module _ (s : List ℕ) where
 
   pub record Turning (at : ℕ) (c : Known) : Type 0 where
     pub inner : Left s at
-    pub good : c.good ≡ true
     pub low : Low c
     pub rest : in_turn_of c inner.left ≡ in_turn 0 0 0 inner.whole
     pub counts : (k : Sort) → own_of c k + length (names_of k inner.left) ≡ length (names_of k inner.whole)
 
-  pub turning-start : (c : Known) → c ≡ started → Listed → Turning 0 c
-  turning-start c e h =
-      rw e (record { inner = left_start h; good = refl; low = record { constants = omega arith; compounds = omega arith; predicates = omega arith }; rest = refl; counts = zero_more })
+  pub turning-start : (c : Known) → c.constants ≡ 0 → c.compounds ≡ 0 → c.predicates ≡ 0 → Listed → Turning 0 c
+  turning-start c x y z h =
+      record {
+        inner = left_start h;
+        low = record { constants = omega arith; compounds = omega arith; predicates = omega arith };
+        rest = rw (x, y, z) refl;
+        counts = zero_more;
+      }
     where
-      zero_more : (k : Sort) → own_of started k + length (names_of k h.0) ≡ length (names_of k h.0)
+      zero_more : (k : Sort) → own_of c k + length (names_of k h.0) ≡ length (names_of k h.0)
       zero_more Constant = omega arith
       zero_more Compound = omega arith
       zero_more Predicate = omega arith
@@ -103,30 +109,22 @@ module _ (s : List ℕ) where
     fits-here : fits y.top.number (own_of c y.top.sort) ≡ fits n m
     fits-here = ap₂ fits (inv number_is) (ap (own_of c) (inv sort-is) ∙ inv ma)
 
-    stops : fits n m ≡ false → (r : Known) → r ≡ refused → (e : List Entry) → Stands s 0 e → Turned e r
-    stops f r q e h =
-        rw q
-        (record {
-          good_is =
-              inv (ap (in_turn_of c) y.is ∙ rw (fits-here ∙ f))
-              ∙ g.rest ∙ ap (in_turn 0 0 0) (left_one at g.inner e h);
-          counts = λ (z : false ≡ true). let w : ◌≡◌ {A = ℕ} 0 1 = cc in absurd (omega arith);
-        })
+    stops : fits n m ≡ false → (e : List Entry) → Stands s 0 e → in_turn 0 0 0 e ≡ false
+    stops f e h = inv (inv (ap (in_turn_of c) y.is ∙ rw (fits-here ∙ f)) ∙ g.rest ∙ ap (in_turn 0 0 0) (left_one at g.inner e h))
 
-    pub turning-other : (n ≡ m → ⊥) → (r : Known) → r ≡ refused → (e : List Entry) → Stands s 0 e → Turned e r
+    pub turning-other : (n ≡ m → ⊥) → (e : List Entry) → Stands s 0 e → in_turn 0 0 0 e ≡ false
     turning-other d = stops (rw (ne_eqb n m d))
 
-    pub turning-many : n ≡ m → 61438 < n → (r : Known) → r ≡ refused → (e : List Entry) → Stands s 0 e → Turned e r
+    pub turning-many : n ≡ m → 61439 ≤ n → (e : List Entry) → Stands s 0 e → in_turn 0 0 0 e ≡ false
     turning-many e h = stops (rw (eq-eqb n m e) (le-ltb n 61439 (omega arith)))
 
-    pub turning-step : n ≡ m → n ≤ 61438 → (d : Known) (to : ℕ) → d ≡ more_of c (sort_of a) → to ≡ past s at → Turning to d
+    pub turning-step : n ≡ m → n < 61439 → (d : Known) (to : ℕ) → d ≡ more_of c (sort_of a) → to ≡ past s at → Turning to d
     turning-step e h d to q p =
         let t : fits n m ≡ true = rw (eq-eqb n m e) (lt-ltb n 61439 (omega arith)) in
         let z : d ≡ more_of c y.top.sort = q ∙ ap (more_of c) sort-is in
         rw z
         (record {
           inner = left_step at to g.inner l p;
-          good = refl;
           low = lows y.top.sort (e ∙ ma ∙ ap (own_of c) sort-is);
           rest = inv (ap (in_turn_of c) y.is ∙ rw (fits-here ∙ t)) ∙ g.rest;
           counts = λ k. each k (g.counts k);
@@ -146,14 +144,13 @@ module _ (s : List ℕ) where
             (λ t. let j : own_of c k + suc (length (names_of k y.tail)) ≡ length (names_of k g.inner.whole) = rw t at i in let u : own_of (more_of c y.top.sort) k ≡ own_of c k + 1 = m ∙ rw t in omega arith)
             (λ t. let j : own_of c k + length (names_of k y.tail) ≡ length (names_of k g.inner.whole) = rw t at i in let u : own_of (more_of c y.top.sort) k ≡ own_of c k = m ∙ rw t in omega arith)
 
-  pub turning-end : (at : ℕ) (c : Known) → Turning at c → length s ≤ at → (e : List Entry) → Stands s 0 e → Turned e c
+  pub turning-end : (at : ℕ) (c : Known) → Turning at c → length s ≤ at → (e : List Entry) → Stands s 0 e → Turned e (Some c)
   turning-end at c g l e h =
       let o = left_one at g.inner e h in
-      let z = left_over at g.inner l in
-      record {
-        good_is = g.good ∙ inv (ap (in_turn_of c) z) ∙ g.rest ∙ ap (in_turn 0 0 0) o;
-        counts = λ t k. let q = ap (λ (x : List Entry). length (names_of k x)) z in let i = g.counts k in let j = ap (λ (x : List Entry). length (names_of k x)) o in omega arith;
-      }
+      let z = left_over at g.inner l in (
+        inv (inv (ap (in_turn_of c) z) ∙ g.rest ∙ ap (in_turn 0 0 0) o),
+        λ k. let q = ap (λ (x : List Entry). length (names_of k x)) z in let i = g.counts k in let j = ap (λ (x : List Entry). length (names_of k x)) o in omega arith,
+      )
 
   -- A name
 
@@ -194,10 +191,10 @@ module _ (s : List ℕ) where
           let z = entered s at x.top x.tail x.stands in
           ap₂ (λ (u : Bool) (v : List ℕ). u && same_name w v) (kind-sort k x.top.sort ∙ ap₂ eqb (inv e) (inv z.kind_is)) (inv z.name_is) ∙ inv ta
 
-      pub calling_hit : t ≡ true → (n : ℕ) → n ≡ number_at s (at + 1) → (e : List Entry) (k : Sort) → Stands s 0 e → a ≡ kind k → n ≡ sought e k w
+      pub calling_hit : t ≡ true → (n : ℕ) → n ≡ number_at s (at + 1) → (e : List Entry) (k : Sort) → Stands s 0 e → a ≡ kind k → Some n ≡ sought e k w
       calling_hit y n q e k h f =
           let z = entered s at x.top x.tail x.stands in
-          q ∙ z.number_is
+          ap Some (q ∙ z.number_is)
           ∙ inv (ap (λ (m : List Entry). sought m k w) x.is ∙ rw (hit k f ∙ y))
           ∙ g.rest k f ∙ ap (λ (m : List Entry). sought m k w) (left_one at g.inner e h)
 
@@ -205,7 +202,7 @@ module _ (s : List ℕ) where
       calling-step y to q =
           record { inner = left_step at to g.inner l q; rest = λ k f. inv (ap (λ (m : List Entry). sought m k w) x.is ∙ rw (hit k f ∙ y)) ∙ g.rest k f }
 
-    pub calling-end : (at : ℕ) → Calling a w at → length s ≤ at → (e : List Entry) (k : Sort) → Stands s 0 e → a ≡ kind k → 65536 ≡ sought e k w
+    pub calling-end : (at : ℕ) → Calling a w at → length s ≤ at → (e : List Entry) (k : Sort) → Stands s 0 e → a ≡ kind k → None ≡ sought e k w
     calling-end at g l e k h f =
         inv (ap (λ (m : List Entry). sought m k w) (left_over at g.inner l)) ∙ g.rest k f ∙ ap (λ (m : List Entry). sought m k w) (left_one at g.inner e h)
 
@@ -220,9 +217,8 @@ pub ruleset calls-said = (calling_hit, calling-end)
 -- The check
 
 module _ (s : List ℕ) (t : Bool) (said : t ≡ is_list s) where
-  pub known-none : t ≡ false → (r : Known) → r ≡ refused → Knows s r
-  known-none f r e =
-      rw e (record { good_is = inv (not-list s (inv said ∙ f)); counts = λ (z : false ≡ true). let w : ◌≡◌ {A = ℕ} 0 1 = cc in absurd (omega arith) })
+  pub known-none : t ≡ false → Knows s None
+  known-none f = not-list s (inv said ∙ f)
 
   module _ (bytes : Bytes s) (good : t ≡ true) where
     abbrev is_one : is_list s ≡ true
@@ -231,7 +227,9 @@ module _ (s : List ℕ) (t : Bool) (said : t ≡ is_list s) where
     pub known-made : (l : List Entry) × Stands s 0 l
     known-made = (entries_of s, list-stands s (entries_of s) (list-means s bytes is_one))
 
-    pub known-said : (r : Known) → ((l : List Entry) → Stands s 0 l → Turned l r) → Knows s r
-    known-said r h =
-        let u = h (entries_of s) (list-stands s (entries_of s) (list-means s bytes is_one)) in
-        record { good_is = u.good_is ∙ gives-turn s bytes is_one; counts = u.counts }
+    pub known-said : (r : Option Known) → ((l : List Entry) → Stands s 0 l → Turned l r) → Knows s r
+    known-said r h = go r (h (entries_of s) (list-stands s (entries_of s) (list-means s bytes is_one)))
+      where
+        go : (r : Option Known) → Turned (entries_of s) r → Knows s r
+        go None u = inv (gives-turn s bytes is_one) ∙ u
+        go (Some c) u = (inv (gives-turn s bytes is_one) ∙ u.0, u.1)

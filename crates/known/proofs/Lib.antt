@@ -1,4 +1,3 @@
 -- What the proofs of the functions share.
-pub mod Counting  -- the numbers of each sort
-pub mod Comparing  -- two names
+pub mod Comparing  -- the entry that has a name
 pub mod Along  -- along the entries of a list

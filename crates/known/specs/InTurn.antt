@@ -24,20 +24,14 @@ in_turn c f p (x ∷ l) = fits x.number (own c f p x.sort) ⇒ in_turn (more Con
 
 -- The same of the code's numbers
 
-abbrev pub known : Bool → ℕ → ℕ → ℕ → Known
-known t c f p = record { good = t; constants = c; compounds = f; predicates = p }
-
-abbrev pub started : Known
-started = known true 0 0 0
-
-abbrev pub refused : Known
-refused = known false 0 0 0
+abbrev pub known : ℕ → ℕ → ℕ → Known
+known c f p = record { constants = c; compounds = f; predicates = p }
 
 abbrev pub own_of : Known → Sort → ℕ
 own_of c k = own c.constants c.compounds c.predicates k
 
 abbrev pub more_of : Known → Sort → Known
-more_of c k = known true (more Constant k c.constants) (more Compound k c.compounds) (more Predicate k c.predicates)
+more_of c k = known (more Constant k c.constants) (more Compound k c.compounds) (more Predicate k c.predicates)
 
 abbrev pub in_turn_of : Known → List Entry → Bool
 in_turn_of c l = in_turn c.constants c.compounds c.predicates l

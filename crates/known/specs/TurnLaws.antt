@@ -1,5 +1,5 @@
 -- The test entry by entry is the one that tells a list by its names (questions, Given: `gives`); a name's number in such a list is its place among the names.
-use Rattle.std.specs.Prelude.{ℕ, suc, ◌+◌, ◌/◌, ◌%◌, ◌≤◌, ◌<◌, ◌≡◌, refl, true, false, length, eqb, leb}
+use Rattle.std.specs.Prelude.{ℕ, suc, ◌+◌, ◌/◌, ◌%◌, ◌≤◌, ◌<◌, ◌≡◌, refl, true, false, length, eqb, leb, Some, None}
 use Rattle.std.proofs.Math.Path.{sym as inv, ap}
 use Rattle.std.proofs.Common.{◌∙◌, subst, inl, inr, true≢false, arith, eqb-true, eq-eqb, ltb-true, lt-ltb, le-leb}
 use mathlib.Core.List.{List, [], ◌∷◌, ◌++◌, append_assoc}
@@ -165,14 +165,14 @@ module _ (s : List ℕ) (bytes : Bytes s) where
 
 -- The number of a name
 
-pub sought-none : (k : Sort) (w : List ℕ) (l : List Entry) → within w (names_of k l) ≡ false → sought l k w ≡ 65536
+pub sought-none : (k : Sort) (w : List ℕ) (l : List Entry) → within w (names_of k l) ≡ false → sought l k w ≡ None
 sought-none k w [] h = refl
 sought-none k w (x ∷ l) h =
     cases (is_sort k x.sort)
     (λ y. let g : within w (x.name ∷ names_of k l) ≡ false = rw y at h in cases (same_name w x.name) (λ z. no_test (inv (rw z at g))) (λ z. rw (y, z) (sought-none k w l (rw z at g))))
     (λ y. rw y (sought-none k w l (rw y at h)))
 
-pub sought-place : (k : Sort) (w : List ℕ) (c f p : ℕ) (l : List Entry) → in_turn c f p l ≡ true → within w (names_of k l) ≡ true → sought l k w ≡ own c f p k + place w (names_of k l)
+pub sought-place : (k : Sort) (w : List ℕ) (c f p : ℕ) (l : List Entry) → in_turn c f p l ≡ true → within w (names_of k l) ≡ true → sought l k w ≡ Some (own c f p k + place w (names_of k l))
 sought-place k w c f p [] e h = no_test h
 sought-place k w c f p (x ∷ l) e h =
     let t = fits-means x.number (own c f p x.sort) (passed (fits x.number (own c f p x.sort)) _ e) in
@@ -183,19 +183,19 @@ sought-place k w c f p (x ∷ l) e h =
     let q : own c f p k ≡ own c f p x.sort = ap (own c f p) (inv (same-sort k x.sort y)) in
     let u : own (more Constant x.sort c) (more Compound x.sort f) (more Predicate x.sort p) k ≡ own c f p k + 1 = m ∙ rw y in
     let g : within w (x.name ∷ names_of k l) ≡ true = rw y at h in
-    cases (same_name w x.name) (λ z. rw (y, z) (omega (arith, t.0))) (λ z. let j = i (rw z at g) in rw (y, z) (omega arith)))
+    cases (same_name w x.name) (λ z. rw (y, z) (ap Some (omega (arith, t.0)))) (λ z. rw (y, z) (i (rw z at g) ∙ ap Some (omega arith))))
     (λ y.
     let u : own (more Constant x.sort c) (more Compound x.sort f) (more Predicate x.sort p) k ≡ own c f p k = m ∙ rw y in
-    let j = i (rw y at h) in rw y (omega arith))
+    rw y (i (rw y at h) ∙ ap Some (omega arith)))
 
 -- by the names that a list gives
-pub known-number : (s : List ℕ) → Bytes s → gives s ≡ true → (k : Sort) (w : List ℕ) → sought (entries_of s) k w ≡ (within w (given_from s k) ⇒ place w (given_from s k) ∣ 65536)
+pub known-number : (s : List ℕ) → Bytes s → gives s ≡ true → (k : Sort) (w : List ℕ) → sought (entries_of s) k w ≡ (within w (given_from s k) ⇒ Some (place w (given_from s k)) ∣ None)
 known-number s bytes g k w =
     cases (within w (given_from s k))
-    (λ h. rw h (from_zero k (sought-place k w 0 0 0 (entries_of s) (gives-turned s bytes g) h)))
+    (λ h. rw h (sought-place k w 0 0 0 (entries_of s) (gives-turned s bytes g) h ∙ ap Some (from_zero k)))
     (λ h. rw h (sought-none k w (entries_of s) h))
   where
-    from_zero : (k : Sort) → sought (entries_of s) k w ≡ own 0 0 0 k + place w (given_from s k) → sought (entries_of s) k w ≡ place w (given_from s k)
-    from_zero Constant e = omega (arith, e)
-    from_zero Compound e = omega (arith, e)
-    from_zero Predicate e = omega (arith, e)
+    from_zero : (k : Sort) → own 0 0 0 k + place w (given_from s k) ≡ place w (given_from s k)
+    from_zero Constant = omega arith
+    from_zero Compound = omega arith
+    from_zero Predicate = omega arith

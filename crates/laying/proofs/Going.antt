@@ -23,7 +23,7 @@ use Rattle.laying.specs.declared.Task.{Task}
 use Rattle.laying.specs.Page.{Page, page, blank_page, over}
 use Rattle.laying.specs.PageLaws.{spots_all, formulas_bytes}
 use Rattle.laying.specs.PieceLaws.{word_count, text-laid, asked-count}
-use Rattle.laying.specs.Words.{base_of, own_of, list_of, words_of, Words, Knowing}
+use Rattle.laying.specs.Words.{base_of, own_of, draft, list_of, words_of, Words, Knowing}
 use Rattle.laying.specs.Held.{blank_draft, Held}
 use Rattle.laying.specs.Adding.{after, PieceHere, SomePiece, PieceLaid, Lays, Laid}
 
@@ -43,6 +43,16 @@ pub record Going (text names table out opens : List ℕ) (k : Known) (d : Draft)
   pub rest : over (given_from names) page_now left ≡ page (formulas_bytes (given_from names) [] formulas) [] (spots_all [] formulas) (length formulas)
 
 -- The start
+
+pub blank-is : (d : Draft) → (d.len ≡ 0) × ((d.depth ≡ 0) × ((d.formulas ≡ 0) × ((d.variables ≡ 0) × ((d.constants ≡ 0) × ((d.compounds ≡ 0) × (d.predicates ≡ 0)))))) → d ≡ blank_draft
+blank-is d (a, (b, (c, (v, (k, (f, p)))))) =
+    ap (λ (x : ℕ). draft x d.depth d.formulas d.variables d.constants d.compounds d.predicates) a
+    ∙ ap (λ (x : ℕ). draft 0 x d.formulas d.variables d.constants d.compounds d.predicates) b
+    ∙ ap (λ (x : ℕ). draft 0 0 x d.variables d.constants d.compounds d.predicates) c
+    ∙ ap (λ (x : ℕ). draft 0 0 0 x d.constants d.compounds d.predicates) v
+    ∙ ap (λ (x : ℕ). draft 0 0 0 0 x d.compounds d.predicates) k
+    ∙ ap (λ (x : ℕ). draft 0 0 0 0 0 x d.predicates) f
+    ∙ ap (λ (x : ℕ). draft 0 0 0 0 0 0 x) p
 
 own-none : (k : Kind) → own_of blank_draft k ≡ 0
 own-none Variable = refl

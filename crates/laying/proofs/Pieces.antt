@@ -18,10 +18,10 @@ use Rattle.laying.specs.declared.Task.{Task}
 use Rattle.laying.specs.Page.{Page}
 use Rattle.laying.specs.PieceLaws.{word_count}
 use Rattle.laying.specs.Held.{shut_draft, Held}
-use Rattle.laying.specs.Adding.{WordHere, NameHere, SomeWord, NameLaid, SomeVariable, VariableLaid, role_of, after, PieceHere, SomePiece, PieceLaid}
+use Rattle.laying.specs.Adding.{WordHere, NameHere, SomeWord, NameLaid, SomeVariable, VariableLaid, after, PieceHere, SomePiece, PieceLaid}
 use Rattle.laying.proofs.Bracketing.{held-shut}
 
--- What a piece is, by its role
+-- What a piece is
 
 record Reaches (text : List ℕ) (at end : ℕ) (ps : List Piece) : Type 0 where
   rest : drop end text ≡ bytes ps
@@ -29,55 +29,22 @@ record Reaches (text : List ℕ) (at end : ℕ) (ps : List Piece) : Type 0 where
   inside : end ≤ length text
 
 module _ (text : List ℕ) (at end : ℕ) (p : Piece) (ps : List Piece) where
-  name-there : (f : Found) → role_of f ≡ 1 → front_at text at f ≡ front p (bytes ps) → Inside text at f → end ≡ end_of at f → (p ≡ token (name (word text at (end - at)))) × Reaches text at end ps
-  name-there (F.Name e) r q i x = rw x (cc, record { rest = cc; onward = i.0; inside = i.1 })
-  name-there (F.Variable e) r q i x = absurd (omega arith)
-  name-there F.Space r q i x = absurd (omega arith)
-  name-there (F.Comment e) r q i x = absurd (omega arith)
-  name-there F.Opening r q i x = absurd (omega arith)
-  name-there F.Closing r q i x = absurd (omega arith)
-  name-there F.Comma r q i x = absurd (omega arith)
-  name-there F.Arrow r q i x = absurd (omega arith)
-  name-there F.Stop r q i x = absurd (omega arith)
-  name-there F.HalfArrow r q i x = absurd (omega arith)
-  name-there F.HalfStop r q i x = absurd (omega arith)
-  name-there F.Nothing r q i x = absurd (omega arith)
+  name-there : (e : ℕ) → front_at text at (F.Name e) ≡ front p (bytes ps) → Inside text at (F.Name e) → end ≡ end_of at (F.Name e) → (p ≡ token (name (word text at (end - at)))) × Reaches text at end ps
+  name-there e q i x = rw x (cc, record { rest = cc; onward = i.0; inside = i.1 })
 
-  variable-there : (f : Found) → role_of f ≡ 2 → front_at text at f ≡ front p (bytes ps) → Inside text at f → end ≡ end_of at f → (p ≡ token (variable (word text at (end - at)))) × Reaches text at end ps
-  variable-there (F.Name e) r q i x = absurd (omega arith)
-  variable-there (F.Variable e) r q i x = rw x (cc, record { rest = cc; onward = i.0; inside = i.1 })
-  variable-there F.Space r q i x = absurd (omega arith)
-  variable-there (F.Comment e) r q i x = absurd (omega arith)
-  variable-there F.Opening r q i x = absurd (omega arith)
-  variable-there F.Closing r q i x = absurd (omega arith)
-  variable-there F.Comma r q i x = absurd (omega arith)
-  variable-there F.Arrow r q i x = absurd (omega arith)
-  variable-there F.Stop r q i x = absurd (omega arith)
-  variable-there F.HalfArrow r q i x = absurd (omega arith)
-  variable-there F.HalfStop r q i x = absurd (omega arith)
-  variable-there F.Nothing r q i x = absurd (omega arith)
+  variable-there : (e : ℕ) → front_at text at (F.Variable e) ≡ front p (bytes ps) → Inside text at (F.Variable e) → end ≡ end_of at (F.Variable e) → (p ≡ token (variable (word text at (end - at)))) × Reaches text at end ps
+  variable-there e q i x = rw x (cc, record { rest = cc; onward = i.0; inside = i.1 })
 
-  closing-there : (f : Found) → role_of f ≡ 3 → front_at text at f ≡ front p (bytes ps) → p ≡ token closing
-  closing-there (F.Name e) r q = absurd (omega arith)
-  closing-there (F.Variable e) r q = absurd (omega arith)
-  closing-there F.Space r q = absurd (omega arith)
-  closing-there (F.Comment e) r q = absurd (omega arith)
-  closing-there F.Opening r q = absurd (omega arith)
-  closing-there F.Closing r q = cc
-  closing-there F.Comma r q = absurd (omega arith)
-  closing-there F.Arrow r q = absurd (omega arith)
-  closing-there F.Stop r q = absurd (omega arith)
-  closing-there F.HalfArrow r q = absurd (omega arith)
-  closing-there F.HalfStop r q = absurd (omega arith)
-  closing-there F.Nothing r q = absurd (omega arith)
+  closing-there : front_at text at F.Closing ≡ front p (bytes ps) → p ≡ token closing
+  closing-there q = cc
 
   -- another piece adds nothing
   data Plain : Type 0 where
     plain : (x : Piece) → p ≡ x → ((g : Given) (s : Page) → after g s x ps ≡ s) → word_count (tokens (x ∷ ps)) ≡ word_count (tokens ps) → Plain
 
-  plain-there : (f : Found) → (role_of f ≡ 1 → ⊥) → (role_of f ≡ 2 → ⊥) → (role_of f ≡ 3 → ⊥) → front_at text at f ≡ front p (bytes ps) → Plain
-  plain-there (F.Name e) a b c q = absurd (a refl)
-  plain-there (F.Variable e) a b c q = absurd (b refl)
+  plain-there : (f : Found) → ((e : ℕ) → f ≡ F.Name e → ⊥) → ((e : ℕ) → f ≡ F.Variable e → ⊥) → (f ≡ F.Closing → ⊥) → front_at text at f ≡ front p (bytes ps) → Plain
+  plain-there (F.Name e) a b c q = absurd (a e refl)
+  plain-there (F.Variable e) a b c q = absurd (b e refl)
   plain-there F.Space a b c q = plain (blank (get_or text at 0)) (cc) (λ g s. refl) refl
   plain-there (F.Comment e) a b c q = plain (comment (part text (at + 1) e)) (cc) (λ g s. refl) refl
   plain-there F.Opening a b c q = plain (token opening) (cc) (λ g s. refl) refl
@@ -92,19 +59,22 @@ module _ (text : List ℕ) (at end : ℕ) (p : Piece) (ps : List Piece) where
 one_more : (n : ℕ) → suc n ≡ n + 1
 one_more n = omega arith
 
-module _ (text names table out opens : List ℕ) (t : Task) (end role : ℕ) (re : role ≡ role_of t.found) where
+module _ (text names table out opens : List ℕ) (t : Task) (end : ℕ) where
   abbrev G : Given
   G = given_from names
 
   abbrev Here : Page → Piece → List Piece → Type 0
   Here s p ps = PieceHere text names table out opens t end s p ps
 
+  shown : {f : Found} (p : Piece) (ps : List Piece) → t.found ≡ f → front_at text t.at t.found ≡ front p (bytes ps) → front_at text t.at f ≡ front p (bytes ps)
+  shown p ps e h = ap (front_at text t.at) (inv e) ∙ h
+
   left_one : (s : Page) (p q : Piece) (ps : List Piece) (n : ℕ) → p ≡ q → word_count (tokens (q ∷ ps)) ≡ n → Held G text table out opens t.draft s (word_count (tokens (p ∷ ps))) → Held G text table out opens t.draft s n
   left_one s p q ps n e f h = subst (Held G text table out opens t.draft s) (ap (λ (x : Piece). word_count (tokens (x ∷ ps))) e ∙ f) h
 
-  named_here : role ≡ 1 → (s : Page) (p : Piece) (ps : List Piece) → Here s p ps → (p ≡ token (name (word text t.at (end - t.at)))) × NameHere text names table out opens t.known t.draft t.at end s ps
-  named_here e s p ps h =
-      let q = name-there text t.at end p ps t.found (inv re ∙ e) h.stands h.inside h.ends in (
+  named_here : (a : ℕ) → t.found ≡ F.Name a → (s : Page) (p : Piece) (ps : List Piece) → Here s p ps → (p ≡ token (name (word text t.at (end - t.at)))) × NameHere text names table out opens t.known t.draft t.at end s ps
+  named_here a e s p ps h =
+      let q = name-there text t.at end p ps a (shown p ps e h.stands) (subst (Inside text t.at) e h.inside) (h.ends ∙ ap (end_of t.at) e) in (
         q.0,
         record {
           knowing = h.knowing;
@@ -114,46 +84,46 @@ module _ (text names table out opens : List ℕ) (t : Task) (end role : ℕ) (re
         },
       )
 
-  pub piece-word : role ≡ 1 → SomePiece text names table out opens t end → SomeWord text names table out opens t.known t.draft t.at end
-  piece-word e x = record { page_now = x.page_now; behind = x.behind; there = (named_here e x.page_now x.piece x.behind x.there).1 }
+  pub piece-word : (a : ℕ) → t.found ≡ F.Name a → SomePiece text names table out opens t end → SomeWord text names table out opens t.known t.draft t.at end
+  piece-word a e x = record { page_now = x.page_now; behind = x.behind; there = (named_here a e x.page_now x.piece x.behind x.there).1 }
 
-  pub piece-named : role ≡ 1 → (table' out' opens' : List ℕ) (r : Draft) → NameLaid text names table table' out out' opens opens' t.known t.draft t.at end r → PieceLaid text names table table' out out' opens opens' t end r
-  piece-named e table' out' opens' r l =
+  pub piece-named : (a : ℕ) → t.found ≡ F.Name a → (table' out' opens' : List ℕ) (r : Draft) → NameLaid text names table table' out out' opens opens' t.known t.draft t.at end r → PieceLaid text names table table' out out' opens opens' t end r
+  piece-named a e table' out' opens' r l =
       record {
-        holds = λ s p ps h. let q = named_here e s p ps h in subst (λ (x : Piece). Held G text table' out' opens' r (after G s x ps) (word_count (tokens ps))) (inv q.0) (l.holds s ps q.1);
+        holds = λ s p ps h. let q = named_here a e s p ps h in subst (λ (x : Piece). Held G text table' out' opens' r (after G s x ps) (word_count (tokens ps))) (inv q.0) (l.holds s ps q.1);
       }
 
-  argued-here : role ≡ 2 → (s : Page) (p : Piece) (ps : List Piece) → Here s p ps →
+  argued-here : (a : ℕ) → t.found ≡ F.Variable a → (s : Page) (p : Piece) (ps : List Piece) → Here s p ps →
       (p ≡ token (variable (word text t.at (end - t.at)))) × WordHere G text table out opens t.draft t.at end s (word_count (tokens ps))
-  argued-here e s p ps h =
-      let q = variable-there text t.at end p ps t.found (inv re ∙ e) h.stands h.inside h.ends in (
+  argued-here a e s p ps h =
+      let q = variable-there text t.at end p ps a (shown p ps e h.stands) (subst (Inside text t.at) e h.inside) (h.ends ∙ ap (end_of t.at) e) in (
         q.0,
         record { held = left_one s p (token (variable (word text t.at (end - t.at)))) ps (word_count (tokens ps) + 1) q.0 (one_more (word_count (tokens ps))) h.held; onward = q.1.onward; inside = q.1.inside; short = h.short },
       )
 
-  pub piece-variable : role ≡ 2 → SomePiece text names table out opens t end → SomeVariable text table out opens t.known t.draft t.at end
-  piece-variable e x = record { base = G; page_now = x.page_now; left = word_count (tokens x.behind); there = (argued-here e x.page_now x.piece x.behind x.there).1 }
+  pub piece-variable : (a : ℕ) → t.found ≡ F.Variable a → SomePiece text names table out opens t end → SomeVariable text table out opens t.known t.draft t.at end
+  piece-variable a e x = record { base = G; page_now = x.page_now; left = word_count (tokens x.behind); there = (argued-here a e x.page_now x.piece x.behind x.there).1 }
 
-  pub piece-argued : role ≡ 2 → (table' out' : List ℕ) (r : Draft) → VariableLaid text table table' out out' opens t.known t.draft t.at end r → PieceLaid text names table table' out out' opens opens t end r
-  piece-argued e table' out' r l =
+  pub piece-argued : (a : ℕ) → t.found ≡ F.Variable a → (table' out' : List ℕ) (r : Draft) → VariableLaid text table table' out out' opens t.known t.draft t.at end r → PieceLaid text names table table' out out' opens opens t end r
+  piece-argued a e table' out' r l =
       record {
         holds =
             λ s p ps h.
-            let q = argued-here e s p ps h in
+            let q = argued-here a e s p ps h in
             subst (λ (x : Piece). Held G text table' out' opens r (after G s x ps) (word_count (tokens ps))) (inv q.0) (l.holds G s (word_count (tokens ps)) q.1);
       }
 
-  pub piece-shut : role ≡ 3 → (r : Draft) → r ≡ shut_draft t.draft → PieceLaid text names table table out out opens opens t end r
+  pub piece-shut : t.found ≡ F.Closing → (r : Draft) → r ≡ shut_draft t.draft → PieceLaid text names table table out out opens opens t end r
   piece-shut e r z =
       record {
         holds =
             λ s p ps h.
-            let q = closing-there text t.at end p ps t.found (inv re ∙ e) h.stands in
+            let q = closing-there text t.at end p ps (shown p ps e h.stands) in
             rw z (subst (λ (x : Piece). Held G text table out opens (shut_draft t.draft) (after G s x ps) (word_count (tokens ps))) (inv q) (held-shut (left_one s p (token closing) ps (word_count (tokens ps)) q refl h.held)));
       }
 
-  pub piece-plain : (role ≡ 1 → ⊥) → (role ≡ 2 → ⊥) → (role ≡ 3 → ⊥) → PieceLaid text names table table out out opens opens t end t.draft
-  piece-plain a b c = record { holds = λ s p ps h. by s p ps h (plain-there text t.at end p ps t.found (λ e. a (re ∙ e)) (λ e. b (re ∙ e)) (λ e. c (re ∙ e)) h.stands) }
+  pub piece-plain : ((e : ℕ) → t.found ≡ F.Name e → ⊥) → ((e : ℕ) → t.found ≡ F.Variable e → ⊥) → (t.found ≡ F.Closing → ⊥) → PieceLaid text names table table out out opens opens t end t.draft
+  piece-plain a b c = record { holds = λ s p ps h. by s p ps h (plain-there text t.at end p ps t.found a b c h.stands) }
     where
       by : (s : Page) (p : Piece) (ps : List Piece) → Here s p ps → Plain text t.at end p ps → Held G text table out opens t.draft (after G s p ps) (word_count (tokens ps))
       by s p ps h (plain x e f n) =

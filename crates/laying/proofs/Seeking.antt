@@ -4,7 +4,9 @@ use mathlib.Core.Path.{◌≡◌, refl, sym as inv, ap, ap₂, subst, ◌∙◌}
 use mathlib.Core.Bool.{Bool, true, false, true≢false}
 use mathlib.Core.List.{List, [], ◌∷◌, ◌++◌}
 use native.Mathlib.Omega.{arith}
-use lib.ListN.{length, get_or}
+use lib.ListN.{length, get_or, take, drop}
+use Rattle.std.specs.declared.option.Option.{Option}
+use Rattle.std.specs.declared.option.Option.TheVariants.{Some, None}
 use Rattle.terms.specs.Cases.{cases}
 use Rattle.format.specs.Format.{Bytes}
 use Rattle.grammar.specs.Names as Names
@@ -57,15 +59,15 @@ pub ruleset wordly = (word-other, word_fits, word_same)
 -- Among several
 
 module _ (text table : List ℕ) (from n at len : ℕ) where
-  abbrev Some : Type 0
-  Some = (names : List (List ℕ)) × Words text table from names n
+  abbrev SomeNames : Type 0
+  SomeNames = (names : List (List ℕ)) × Words text table from names n
 
   pub record Finding (i : ℕ) : Type 0 where
     pub below : i ≤ n
-    pub base : Some
+    pub base : SomeNames
     pub passed : (names : List (List ℕ)) → Words text table from names n → (j : ℕ) → j < i → same_name (word text at len) (get_or names j []) ≡ false
 
-  pub finding-start : Some → Finding 0
+  pub finding-start : SomeNames → Finding 0
   finding-start s = record { below = omega arith; base = s; passed = λ names h j (l : j < 0). absurd (omega arith) }
 
   pub finding-inside : (i : ℕ) → Finding i → i < n → get_or table (from + i) 0 + (get_or table (16384 + (from + i)) 0 + 1) ≤ length text
@@ -128,57 +130,63 @@ module _ (names : List ℕ) (bytes : Bytes names) (g : gives names ≡ true) (k 
   stood : Stands names 0 (entries_of names)
   stood = listed-stands names bytes g
 
-  number_in : (n : ℕ) → ((l : List Entry) (j : Sort) → Stands names 0 l → kind k ≡ kind j → n ≡ sought l j w) → n < 65536 → (n ≡ place w all) × (n ≤ 61439)
-  number_in n f l =
+  number_in : (n : ℕ) → ((l : List Entry) (j : Sort) → Stands names 0 l → kind k ≡ kind j → Some n ≡ sought l j w) → (n ≡ place w all) × (n ≤ 61439)
+  number_in n f =
       let s = f (entries_of names) k stood refl ∙ known-number names bytes g k w in
       cases (within w (given_from names k))
-      (λ t. let q : n ≡ place w (given_from names k) = s ∙ rw t in (q ∙ inv (place_in w (given_from names k) own t) ∙ ap (place w) whole, omega (arith, place-within w (given_from names k) t)))
-      (λ t. let q : n ≡ 65536 = s ∙ rw t in absurd (omega arith))
+      (λ t. let r : Some n ≡ Some (place w (given_from names k)) = s ∙ rw t in let q : n ≡ place w (given_from names k) = cc in (q ∙ inv (place_in w (given_from names k) own t) ∙ ap (place w) whole, omega (arith, place-within w (given_from names k) t)))
+      (λ t. let r : Some n ≡ None = s ∙ rw t in let z : ◌≡◌ {A = ℕ} 0 1 = cc in absurd (omega arith))
 
-  number-out : (n c r : ℕ) → ((l : List Entry) (j : Sort) → Stands names 0 l → kind k ≡ kind j → n ≡ sought l j w) → 65536 ≤ n → c ≡ length (given_from names k) → r ≡ place w own → c + r ≡ place w all
-  number-out n c r f l e p =
+  number-out : (c r : ℕ) → ((l : List Entry) (j : Sort) → Stands names 0 l → kind k ≡ kind j → None ≡ sought l j w) → c ≡ length (given_from names k) → r ≡ place w own → c + r ≡ place w all
+  number-out c r f e p =
       let s = f (entries_of names) k stood refl ∙ known-number names bytes g k w in
       cases (within w (given_from names k))
-      (λ t. let q : n ≡ place w (given_from names k) = s ∙ rw t in absurd (omega (arith, place-within w (given_from names k) t)))
+      (λ t. let r : None ≡ Some (place w (given_from names k)) = s ∙ rw t in let z : ◌≡◌ {A = ℕ} 0 1 = cc in absurd (omega arith))
       (λ t. let q = place_out w (given_from names k) own t in let z : place w (given_from names k ++ own) ≡ place w all = ap (place w) whole in omega arith)
 
 module _ (text names table : List ℕ) (bytes : Bytes names) (g : Known) (d : Draft) (w : Word) (pre : Naming text names table g d w) where
-  abbrev Sought : ℕ → Type 0
-  Sought n = (l : List Entry) (j : Sort) → Stands names 0 l → code_of w.kind ≡ kind j → n ≡ sought l j (word_of text w)
+  abbrev Sought : Kind → Option ℕ → Type 0
+  Sought k o = (l : List Entry) (j : Sort) → Stands names 0 l → code_of k ≡ kind j → o ≡ sought l j (word_of text w)
 
   given-few : (k : Kind) → length (list_of (given_from names) k) ≤ 61439
   given-few k = omega (arith, pre.knowing.counts k, pre.knowing.few k)
 
-  listed_in : (k : Kind) → Symbol k → (n : ℕ) → ((l : List Entry) (j : Sort) → Stands names 0 l → code_of k ≡ kind j → n ≡ sought l j (word_of text w)) → n < 65536 →
+  listed_in : (k : Kind) → Symbol k → (n : ℕ) → Sought k (Some n) →
       (e : List Spot) → Kept (given_from names) text table d e → (n ≡ number_of (given_from names) e k (word_of text w)) × (n ≤ 61439)
-  listed_in Variable s n f l e h = absurd s
-  listed_in Constant s n f l e h = number_in names bytes pre.knowing.is Names.Constant (word_of text w) (h.own Constant) (words_of (given_from names) e Constant) (h.whole Constant) (given-few Constant) n f l
-  listed_in Compound s n f l e h = number_in names bytes pre.knowing.is Names.Compound (word_of text w) (h.own Compound) (words_of (given_from names) e Compound) (h.whole Compound) (given-few Compound) n f l
-  listed_in Predicate s n f l e h = number_in names bytes pre.knowing.is Names.Predicate (word_of text w) (h.own Predicate) (words_of (given_from names) e Predicate) (h.whole Predicate) (given-few Predicate) n f l
+  listed_in Variable s n f e h = absurd s
+  listed_in Constant s n f e h = number_in names bytes pre.knowing.is Names.Constant (word_of text w) (h.own Constant) (words_of (given_from names) e Constant) (h.whole Constant) (given-few Constant) n f
+  listed_in Compound s n f e h = number_in names bytes pre.knowing.is Names.Compound (word_of text w) (h.own Compound) (words_of (given_from names) e Compound) (h.whole Compound) (given-few Compound) n f
+  listed_in Predicate s n f e h = number_in names bytes pre.knowing.is Names.Predicate (word_of text w) (h.own Predicate) (words_of (given_from names) e Predicate) (h.whole Predicate) (given-few Predicate) n f
 
-  listed-out : (k : Kind) → Symbol k → (n r : ℕ) → ((l : List Entry) (j : Sort) → Stands names 0 l → code_of k ≡ kind j → n ≡ sought l j (word_of text w)) → 65536 ≤ n →
+  listed-out : (k : Kind) → Symbol k → (r : ℕ) → Sought k None →
       (e : List Spot) (h : Kept (given_from names) text table d e) → r ≡ place (word_of text w) (h.own k) → given_of g k + r ≡ number_of (given_from names) e k (word_of text w)
-  listed-out Variable s n r f l e h q = absurd s
-  listed-out Constant s n r f l e h q = number-out names bytes pre.knowing.is Names.Constant (word_of text w) (h.own Constant) (words_of (given_from names) e Constant) (h.whole Constant) (given-few Constant) n g.constants r f l (pre.knowing.counts Constant) q
-  listed-out Compound s n r f l e h q = number-out names bytes pre.knowing.is Names.Compound (word_of text w) (h.own Compound) (words_of (given_from names) e Compound) (h.whole Compound) (given-few Compound) n g.compounds r f l (pre.knowing.counts Compound) q
-  listed-out Predicate s n r f l e h q = number-out names bytes pre.knowing.is Names.Predicate (word_of text w) (h.own Predicate) (words_of (given_from names) e Predicate) (h.whole Predicate) (given-few Predicate) n g.predicates r f l (pre.knowing.counts Predicate) q
+  listed-out Variable s r f e h q = absurd s
+  listed-out Constant s r f e h q = number-out names bytes pre.knowing.is Names.Constant (word_of text w) (h.own Constant) (words_of (given_from names) e Constant) (h.whole Constant) (given-few Constant) g.constants r f (pre.knowing.counts Constant) q
+  listed-out Compound s r f e h q = number-out names bytes pre.knowing.is Names.Compound (word_of text w) (h.own Compound) (words_of (given_from names) e Compound) (h.whole Compound) (given-few Compound) g.compounds r f (pre.knowing.counts Compound) q
+  listed-out Predicate s r f e h q = number-out names bytes pre.knowing.is Names.Predicate (word_of text w) (h.own Predicate) (words_of (given_from names) e Predicate) (h.whole Predicate) (given-few Predicate) g.predicates r f (pre.knowing.counts Predicate) q
 
-  pub name-listed : (n c : ℕ) → c ≡ code_of w.kind → ((l : List Entry) (j : Sort) → Stands names 0 l → c ≡ kind j → n ≡ sought l j (word_of text w)) → n < 65536 → NamedNumber text names table d w n
-  name-listed n c q f l =
-      let f' : Sought n = λ x j s e. f x j s (q ∙ e) in
-      record { answers = λ e h. (listed_in w.kind pre.symbol n f' l e h).0; low = omega (arith, (listed_in w.kind pre.symbol n f' l pre.spots pre.kept).1) }
+  -- what the code asks of the list: the name's bytes are a part of the text
+  abbrev Asked : ℕ → List ℕ → Option ℕ → Type 0
+  Asked c v o = (l : List Entry) (j : Sort) → Stands names 0 l → c ≡ kind j → o ≡ sought l j v
 
-  pub name-own : (n c b o p r : ℕ) → c ≡ code_of w.kind → ((l : List Entry) (j : Sort) → Stands names 0 l → c ≡ kind j → n ≡ sought l j (word_of text w)) → 65536 ≤ n → p ≡ given_of g w.kind → b ≡ base_of w.kind →
-      o ≡ own_of d w.kind → ((own : List (List ℕ)) → Words text table b own o → r ≡ place (word_of text w) own) → r ≤ o → NamedNumber text names table d w (p + r)
-  name-own n c b o p r q f l pe be oe h m =
-      let f' : Sought n = λ x j s e. f x j s (q ∙ e) in
-      record {
-        answers =
-            λ e k.
-            ap (λ (x : ℕ). x + r) pe
-            ∙ listed-out w.kind pre.symbol n r f' l e k (h (k.own w.kind) (subst (λ (x : ℕ). Words text table x (k.own w.kind) o) (inv be) (subst (Words text table (base_of w.kind) (k.own w.kind)) (inv oe) (k.words w.kind))));
-        low = omega (arith, pre.knowing.few w.kind);
-      }
+  module _ (c m : ℕ) (q : c ≡ code_of w.kind) (me : m ≡ w.len) (o : Option ℕ) (f : Asked c (take m (drop w.at text)) o) where
+    asked : (p : Option ℕ) → o ≡ p → Sought w.kind p
+    asked p e l j s i = inv e ∙ f l j s (q ∙ i) ∙ ap (λ (x : ℕ). sought l j (take x (drop w.at text))) me
+
+    pub name-listed : (n : ℕ) → o ≡ Some n → NamedNumber text names table d w n
+    name-listed n e =
+        record { answers = λ i h. (listed_in w.kind pre.symbol n (asked (Some n) e) i h).0; low = omega (arith, (listed_in w.kind pre.symbol n (asked (Some n) e) pre.spots pre.kept).1) }
+
+    pub name-own : (b u p r : ℕ) → o ≡ None → p ≡ given_of g w.kind → b ≡ base_of w.kind →
+        u ≡ own_of d w.kind → ((own : List (List ℕ)) → Words text table b own u → r ≡ place (word_of text w) own) → r ≤ u → NamedNumber text names table d w (p + r)
+    name-own b u p r e pe be oe h y =
+        record {
+          answers =
+              λ i k.
+              ap (λ (x : ℕ). x + r) pe
+              ∙ listed-out w.kind pre.symbol r (asked None e) i k (h (k.own w.kind) (subst (λ (x : ℕ). Words text table x (k.own w.kind) u) (inv be) (subst (Words text table (base_of w.kind) (k.own w.kind)) (inv oe) (k.words w.kind))));
+          low = omega (arith, pre.knowing.few w.kind);
+        }
 
   pub name-words : (b o : ℕ) → b ≡ base_of w.kind → o ≡ own_of d w.kind → (own : List (List ℕ)) × Words text table b own o
   name-words b o be oe =

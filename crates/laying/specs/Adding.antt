@@ -7,7 +7,6 @@ use Rattle.grammar.specs.Query.{Given}
 use Rattle.asking.specs.Accepted.{Accepted}
 use Rattle.pieces.specs.Found.{front_at, Inside}
 use Rattle.pieces.specs.declared.Found.{Found}
-use Rattle.pieces.specs.declared.Found.TheVariants as F
 use Rattle.pieces.specs.Found.{end_of}
 use Rattle.nametable.specs.Table.{word}
 use Rattle.questions.specs.Given.{given_from}
@@ -54,20 +53,6 @@ pub record VariableLaid (text table table' out out' opens : List ℕ) (k : Known
   pub holds : (g : Given) (s : Page) (left : ℕ) → WordHere g text table out opens d at end s left → Held g text table' out' opens r (argued s (word text at (end - at))) left
 
 -- A piece
-
-abbrev pub role_of : Found → ℕ
-role_of (F.Name end) = 1
-role_of (F.Variable end) = 2
-role_of F.Space = 0
-role_of (F.Comment end) = 0
-role_of F.Opening = 0
-role_of F.Closing = 3
-role_of F.Comma = 0
-role_of F.Arrow = 0
-role_of F.Stop = 0
-role_of F.HalfArrow = 0
-role_of F.HalfStop = 0
-role_of F.Nothing = 0
 
 abbrev pub after : Given → Page → Piece → List Piece → Page
 after g s (token t) ps = step g s t (bracketed ps)

@@ -2,8 +2,8 @@
 #![tactic(auto)]
 
 ghost use Rattle.std.specs.Prelude.{◌≡◌, ◌+◌, ◌-◌, ◌<◌, ◌≤◌, length};
-ghost use Rattle.laying.specs.Held.{kind_of, blank_draft, rooted_draft, shut_draft, opens_at};
-ghost use Rattle.laying.specs.Adding.{role_of, SomeWord, NameLaid, SomeVariable, VariableLaid, SomePiece, PieceLaid, Lays, Laid};
+ghost use Rattle.laying.specs.Held.{kind_of, rooted_draft, shut_draft, opens_at};
+ghost use Rattle.laying.specs.Adding.{SomeWord, NameLaid, SomeVariable, VariableLaid, SomePiece, PieceLaid, Lays, Laid};
 
 use crate::nodes::{lay, push};
 use crate::owned::{number_of_name, number_of_variable};
@@ -22,7 +22,7 @@ pub enum Kind {
 }
 
 // How many bytes are laid, how many brackets are open, how many formulas there are; and how many words of each kind that no list has given.
-#[derive(Clone, Copy)]
+#[derive(Clone, Copy, Default)]
 pub struct Draft {
     pub len: usize,
     pub depth: usize,
@@ -50,28 +50,11 @@ pub struct Task {
     pub found: Found,
 }
 
-fn blank() -> Draft
-    ensures { result ≡ blank_draft }
-{
-    Draft {
-        len: 0,
-        depth: 0,
-        formulas: 0,
-        variables: 0,
-        constants: 0,
-        compounds: 0,
-        predicates: 0,
-    }
-}
-
 // "a bracket follows its name at once"
 fn opens_at(text: &[u8], at: usize) -> bool
     ensures { result ≡ opens_at text.now at }
 {
-    if text.len() <= at {
-        return false;
-    }
-    text[at] == 40
+    at < text.len() && text[at] == b'('
 }
 
 // What a name is: outside all brackets a predicate; otherwise by whether it has a bracket.
@@ -96,23 +79,9 @@ fn rooted(d: Draft) -> Draft
         return d;
     }
     Draft {
-        len: d.len,
-        depth: d.depth,
         formulas: d.formulas + 1,
-        variables: d.variables,
-        constants: d.constants,
-        compounds: d.compounds,
-        predicates: d.predicates,
+        ..d
     }
-}
-
-fn less(n: usize) -> usize
-    ensures { result ≡ n - 1 }
-{
-    if n == 0 {
-        return 0;
-    }
-    n - 1
 }
 
 // A closing bracket.
@@ -120,13 +89,8 @@ fn shut(d: Draft) -> Draft
     ensures { result ≡ shut_draft d }
 {
     Draft {
-        len: d.len,
-        depth: less(d.depth),
-        formulas: d.formulas,
-        variables: d.variables,
-        constants: d.constants,
-        compounds: d.compounds,
-        predicates: d.predicates,
+        depth: d.depth.saturating_sub(1),
+        ..d
     }
 }
 
@@ -178,26 +142,7 @@ fn add_variable(
     lay(table, out, opens, g, d, Word { kind, at, len }, n)
 }
 
-// What a piece adds: 1 a name, 2 a variable, 3 the end of a bracket, 0 nothing.
-fn role(found: Found) -> usize
-    ensures { result ≡ role_of found }
-{
-    match found {
-        Found::Name(_) => 1,
-        Found::Variable(_) => 2,
-        Found::Space => 0,
-        Found::Comment(_) => 0,
-        Found::Opening => 0,
-        Found::Closing => 3,
-        Found::Comma => 0,
-        Found::Arrow => 0,
-        Found::Stop => 0,
-        Found::HalfArrow => 0,
-        Found::HalfStop => 0,
-        Found::Nothing => 0,
-    }
-}
-
+// What a piece adds.
 fn add(
     text: &[u8],
     names: &[u8],
@@ -210,19 +155,12 @@ fn add(
     requires { SomePiece text.now names.now table.old out.old opens.old t end }
     ensures { PieceLaid text.now names.now table.old table.new out.old out.new opens.old opens.new t end result }
 {
-    let found = t.found;
-    let role = role(found);
-    if role == 1 {
-        return add_name(text, names, table, out, opens, t, end);
+    match t.found {
+        Found::Name(_) => add_name(text, names, table, out, opens, t, end),
+        Found::Variable(_) => add_variable(text, table, out, opens, t, end),
+        Found::Closing => shut(t.draft),
+        _ => t.draft,
     }
-    if role == 2 {
-        return add_variable(text, table, out, opens, t, end);
-    }
-    let d = t.draft;
-    if role == 3 {
-        return shut(d);
-    }
-    d
 }
 
 // All pieces of a text that is a query's.
@@ -237,7 +175,7 @@ pub fn lay_text(
     requires { Lays text.now names.now table.old out.old opens.old known }
     ensures { Laid text.now names.now table.new out.new result }
 {
-    let mut d = blank();
+    let mut d = Draft::default();
     let mut at = 0;
     while at < text.len() {
         let found = piece_at(text, at);

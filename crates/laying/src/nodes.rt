@@ -13,10 +13,7 @@ use words::get;
 fn raised(x: u8) -> u8
     ensures { result ≡ raised x }
 {
-    if x < 255 {
-        return x + 1;
-    }
-    x
+    x.saturating_add(1)
 }
 
 // One more argument of the innermost symbol whose bracket is open.
@@ -62,12 +59,7 @@ fn longer(d: Draft, n: usize) -> Draft
 {
     Draft {
         len: d.len + n,
-        depth: d.depth,
-        formulas: d.formulas,
-        variables: d.variables,
-        constants: d.constants,
-        compounds: d.compounds,
-        predicates: d.predicates,
+        ..d
     }
 }
 
@@ -98,12 +90,7 @@ pub fn push(opens: &mut [u16], d: Draft, p: usize) -> Draft
     let depth = d.depth;
     opens[depth] = p as u16;
     Draft {
-        len: d.len,
         depth: depth + 1,
-        formulas: d.formulas,
-        variables: d.variables,
-        constants: d.constants,
-        compounds: d.compounds,
-        predicates: d.predicates,
+        ..d
     }
 }

@@ -61,40 +61,20 @@ fn with_one(d: Draft, kind: Kind) -> Draft
 {
     match kind {
         Kind::Variable => Draft {
-            len: d.len,
-            depth: d.depth,
-            formulas: d.formulas,
             variables: d.variables + 1,
-            constants: d.constants,
-            compounds: d.compounds,
-            predicates: d.predicates,
+            ..d
         },
         Kind::Constant => Draft {
-            len: d.len,
-            depth: d.depth,
-            formulas: d.formulas,
-            variables: d.variables,
             constants: d.constants + 1,
-            compounds: d.compounds,
-            predicates: d.predicates,
+            ..d
         },
         Kind::Compound => Draft {
-            len: d.len,
-            depth: d.depth,
-            formulas: d.formulas,
-            variables: d.variables,
-            constants: d.constants,
             compounds: d.compounds + 1,
-            predicates: d.predicates,
+            ..d
         },
         Kind::Predicate => Draft {
-            len: d.len,
-            depth: d.depth,
-            formulas: d.formulas,
-            variables: d.variables,
-            constants: d.constants,
-            compounds: d.compounds,
             predicates: d.predicates + 1,
+            ..d
         },
     }
 }
@@ -104,23 +84,18 @@ fn is_word(text: &[u8], table: &[u16], i: usize, at: usize, len: usize) -> bool
     requires { (16384 + i < length table.now) × (at + len ≤ length text.now) × (get_or table.now i 0 + (get_or table.now (16384 + i) 0 + 1) ≤ length text.now) }
     ensures { result ≡ same_name (word text.now at len) (word text.now (get_or table.now i 0) (get_or table.now (16384 + i) 0 + 1)) }
 {
-    if get(table, 16384 + i) + 1 != len {
-        return false;
-    }
-    same(text, at, get(table, i), len)
+    get(table, 16384 + i) + 1 == len && same(text, at, get(table, i), len)
 }
 
-// The place of a word among n words, or n.
+// The number of a word among n words; one that is not among them gets the next, n.
 fn find(text: &[u8], table: &[u16], from: usize, n: usize, at: usize, len: usize) -> usize
     requires { ((names : List (List ℕ)) × Words text.now table.now from names n) × (length table.now ≡ 32768) × (from + n ≤ 16384) × (at + len ≤ length text.now) }
     ensures { ((names : List (List ℕ)) → Words text.now table.now from names n → result ≡ place (word text.now at len) names) × (result ≤ n) }
 {
-    let mut i = 0;
-    while i < n {
+    for i in 0..n {
         if is_word(text, table, from + i, at, len) {
             return i;
         }
-        i += 1;
     }
     n
 }
@@ -129,10 +104,7 @@ fn lone(text: &[u8], at: usize, len: usize) -> bool
     requires { at + len ≤ length text.now }
     ensures { result ≡ lone (word text.now at len) }
 {
-    if len != 1 {
-        return false;
-    }
-    text[at] == 95
+    len == 1 && text[at] == b'_'
 }
 
 // "each lone `_` a new variable"
@@ -161,8 +133,7 @@ pub fn number_of_name(
     let kind = w.kind;
     let at = w.at;
     let len = w.len;
-    let n = number_of(names, code(kind), text, at, len);
-    if n < 65536 {
+    if let Some(n) = number_of(names, code(kind), &text[at..at + len]) {
         return n;
     }
     given(g, kind) + find(text, table, base(kind), own(d, kind), at, len)

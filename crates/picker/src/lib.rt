@@ -20,6 +20,15 @@ use resolve::{Choice, choose};
 use words::WORDS;
 use words::rows::CELLS;
 
+// What a pick answers (document 01, "Codes"; document 02, C-16 and C-22).
+const EMPTY: u8 = 20;
+
+const STUCK: u8 = 22;
+
+const PICKED: u8 = 25;
+
+const UNKNOWN: u8 = 26;
+
 fn refused(a: Admitted) -> Picked
     ensures { result ≡ pick_refused a }
 {
@@ -47,7 +56,7 @@ fn stuck(furthest: usize, argument: usize) -> Picked
     ensures { result ≡ picked_as (record { clause = furthest; argument = argument }) (record { code = 22; clause = 0 }) }
 {
     Picked {
-        code: 22,
+        code: STUCK,
         furthest: furthest as u32,
         argument: argument as u32,
         ..Picked::default()
@@ -66,9 +75,9 @@ fn from_formula(
     ensures { (P : Book) (f : Expr) (g : Goal) (n : ℕ) → BookOn book.now shelf.now P → GoalIn goal.now n (f ∷ g) → result ≡ pick_said P (f ∷ g) (Pick.pick P (f ∷ g)) }
 {
     match choose(book, shelf, goal, words, rows) {
-        Choice::Clause(clause) => picked(25, clause),
+        Choice::Clause(clause) => picked(PICKED, clause),
         Choice::Stuck(furthest, argument) => stuck(furthest, argument),
-        Choice::Unknown => picked(26, 0),
+        Choice::Unknown => picked(UNKNOWN, 0),
     }
 }
 
@@ -78,7 +87,7 @@ fn from_goal(book: &[u32], shelf: &[u16], goal: &[u32], formulas: usize) -> Pick
     ensures { (P : Book) (g : Goal) → BookOn book.now shelf.now P → GoalIn goal.now formulas g → result ≡ pick_said P g (Pick.pick P g) }
 {
     if formulas == 0 {
-        return picked(20, 0);
+        return picked(EMPTY, 0);
     }
     let mut words = [0u32; WORDS];
     let mut rows = [0u16; CELLS];

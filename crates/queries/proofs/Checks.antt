@@ -1,7 +1,9 @@
 -- What is refused before a text is laid down.
 use Prim.Native.Nat.{ℕ, ◌≤◌}
-use mathlib.Core.Path.{◌≡◌, refl, sym as inv, ap, ◌∙◌}
-use mathlib.Core.Bool.{Bool, true, false, not}
+use mathlib.Core.Path.{◌≡◌, refl, sym as inv, ap, ◌∙◌, subst}
+use mathlib.Core.Bool.{true, false}
+use Rattle.std.specs.declared.option.Option.{Option}
+use Rattle.std.specs.declared.option.Option.TheVariants.{Some}
 use mathlib.Core.List.{List}
 use native.Mathlib.Omega.{arith}
 use lib.ListN.{length}
@@ -26,14 +28,6 @@ use Rattle.laying.specs.Words.{given_of, list_of}
 use Rattle.queries.specs.Finished.{Ready}
 use Rattle.queries.proofs.Finishing.{answers}
 
-untrue : (b : Bool) → not b ≡ true → b ≡ false
-untrue true e = inv e
-untrue false e = refl
-
-true-then : (b : Bool) → not b ≡ false → b ≡ true
-true-then true e = refl
-true-then false e = inv e
-
 module _ (book : List ℕ) (v : Check) (said : v ≡ book_verdict book) where
   code-said : v.code ≡ (book_verdict book).code
   code-said = ap (λ (x : Check). x.code) said
@@ -48,22 +42,22 @@ module _ (book : List ℕ) (v : Check) (said : v ≡ book_verdict book) where
     good : (book_verdict book).code ≡ 0
     good = inv code-said ∙ zero-code
 
-    module _ (names : List ℕ) (g : Known) (k : Knows names g) where
-      pub bad-list : (text query list : List ℕ) (s : ReadQuery) → not g.good ≡ true → s ≡ refusal 45 0 → Is text book names query list s query list
-      bad-list text query list s z q = answers q (is-no-list text book names query list good (inv k.good_is ∙ untrue g.good z))
+    module _ (names : List ℕ) where
+      pub bad-list : gives names ≡ false → (text query list : List ℕ) (s : ReadQuery) → s ≡ refusal 45 0 → Is text book names query list s query list
+      bad-list e text query list s q = answers q (is-no-list text book names query list good e)
 
-      module _ (t : not g.good ≡ false) where
-        known-good : g.good ≡ true
-        known-good = true-then g.good t
+      module _ (o : Option Known) (k : Knows names o) (g : Known) (is : o ≡ Some g) where
+        said_of : Knows names (Some g)
+        said_of = subst (Knows names) is k
 
         given : gives names ≡ true
-        given = inv k.good_is ∙ known-good
+        given = said_of.0
 
         counts : (j : Kind) → given_of g j ≡ length (list_of (given_from names) j)
         counts Kind.Variable = refl
-        counts Kind.Constant = k.counts known-good Constant
-        counts Kind.Compound = k.counts known-good Compound
-        counts Kind.Predicate = k.counts known-good Predicate
+        counts Kind.Constant = said_of.1 Constant
+        counts Kind.Compound = said_of.1 Compound
+        counts Kind.Predicate = said_of.1 Predicate
 
         few : Gives names (given_from names) → (j : Kind) → length (list_of (given_from names) j) ≤ 61439
         few h Kind.Variable = omega arith

@@ -24,6 +24,11 @@ pub struct Reading {
     pub draft: Draft,
 }
 
+// Refusals that are this entry's own (document 02, C-13); those of a book and of a text are their checks'.
+const NO_ROOM: u8 = 43;
+
+const NO_LIST: u8 = 45;
+
 fn refusal(code: u8, place: u32) -> ReadQuery
     ensures { result ≡ refusal code place }
 {
@@ -42,8 +47,7 @@ fn put_query(area: &mut [u8], nodes: &[u8], formulas: usize)
 {
     let head = [6u8, (formulas / 256) as u8, (formulas % 256) as u8];
     put_bytes(area, &head, 0, 3);
-    let rest = &mut area[3..];
-    put_bytes(rest, nodes, 0, nodes.len());
+    put_bytes(&mut area[3..], nodes, 0, nodes.len());
 }
 
 // "last 43, an area too small"
@@ -63,10 +67,10 @@ fn give(
     let size = list_size(names, table, d);
     let bytes = nodes.len() + 3;
     if query.len() < bytes {
-        return refusal(43, 0);
+        return refusal(NO_ROOM, 0);
     }
     if list.len() < size {
-        return refusal(43, 0);
+        return refusal(NO_ROOM, 0);
     }
     put_query(query, nodes, d.formulas);
     put_list(list, names, text, table, g, d);
@@ -146,10 +150,9 @@ pub fn read_query(
     if checked.code != 0 {
         return refusal(checked.code, checked.place as u32);
     }
-    let known = known_names(names);
-    if !known.good {
-        return refusal(45, 0);
-    }
+    let Some(known) = known_names(names) else {
+        return refusal(NO_LIST, 0);
+    };
     let found = check_text(text);
     if found.code != 0 {
         return refusal(found.code, found.place);

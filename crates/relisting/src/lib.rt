@@ -43,16 +43,15 @@ pub fn skip(s: &[u8], from: usize, kind: usize) -> usize
     at
 }
 
-// How many bytes the own names of a sort have in the list.
+// How many bytes the own names of a sort have in the list. This and `put_own` are as listing's `measure` and `put_names`, where lengths are bytes of a
+// table of their own: a trait for the two ways to find a length would be longer than the two loops.
 pub fn measure(table: &[u16], from: usize, count: usize) -> usize
     requires { (from + count ≤ 16384) × (length table.now ≡ 32768) × (count ≤ 4096) }
     ensures { ((text : List ℕ) (names : List (List ℕ)) (kind first : ℕ) → Owns text table.now from names count → result ≡ length (noted kind first names)) × (result ≤ 65540 * count) }
 {
     let mut sum = 0;
-    let mut i = 0;
-    while i < count {
+    for i in 0..count {
         sum += 5 + get(table, 16384 + (from + i));
-        i += 1;
     }
     sum
 }
@@ -71,13 +70,11 @@ fn put_own(
     ensures { (names : List (List ℕ)) → Owns text.now table.now from names count → Written (noted kind first names) area.old area.new result }
 {
     let mut at = 0;
-    let mut i = 0;
-    while i < count {
+    for i in 0..count {
         let start = get(table, from + i);
         let len = get(table, 16384 + (from + i)) + 1;
         let rest = &mut area[at..];
         at += put_entry(rest, text, kind, first + i, start, len);
-        i += 1;
     }
     at
 }

@@ -4,7 +4,7 @@ ghost use Rattle.searching.specs.Searching.{Moving, Moved, Spent, Following, Fol
 use resolve::Move;
 use rides::Come;
 use states::leftmost::{copy_words, keep};
-use states::{Ended, Place, look};
+use states::{Code, Ended, Place, look};
 
 // The next row: how many words are its goal's and its answer's, and how many formulas its goal has.
 #[derive(Clone, Copy)]
@@ -63,7 +63,7 @@ fn spend(place: Place, budget: u32) -> Result<(), Ended>
     ensures { Spent place budget result }
 {
     if place.detector.step == budget {
-        return Err(place.close(23));
+        return Err(place.close(Code::Spent));
     }
     Ok(())
 }
@@ -83,14 +83,14 @@ pub fn follow(
 {
     match next {
         Move::Stuck(clause, argument) => Err(place.close_stuck(clause, argument)),
-        Move::Unknown => Err(place.close(26)),
+        Move::Unknown => Err(place.close(Code::Unknown)),
         Move::Full => {
             spend(place, budget)?;
-            Err(place.close(24))
+            Err(place.close(Code::TooBig))
         }
         Move::Over => {
             spend(place, budget)?;
-            Err(place.close(27))
+            Err(place.close(Code::AnswerTooBig))
         }
         Move::To(_, words, answer, formulas) => {
             spend(place, budget)?;

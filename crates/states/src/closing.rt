@@ -1,22 +1,23 @@
 // How a state closes the run.
 ghost use Rattle.std.specs.Prelude.{◌≡◌};
+ghost use Rattle.states.specs.Codes.{number};
 ghost use Rattle.states.specs.States.{closed, stuck_at};
 
-use crate::{Ended, Place};
+use crate::{Code, Ended, Place};
 use detector::Detector;
 
 pub fn close(
-    code: u8,
+    code: Code,
     detector: Detector,
     span: u32,
     words: usize,
     formulas: usize,
     answer: usize,
 ) -> Ended
-    ensures { result ≡ closed code detector span words formulas answer }
+    ensures { result ≡ closed (number code) detector span words formulas answer }
 {
     Ended {
-        code,
+        code: u8::from(code),
         steps: detector.step,
         span,
         words,
@@ -29,8 +30,8 @@ pub fn close(
 
 impl Place {
     // An open state that closes; it is no loop.
-    pub fn close(self, code: u8) -> Ended
-        ensures { result ≡ closed code self.detector 0 self.words self.formulas self.answer }
+    pub fn close(self, code: Code) -> Ended
+        ensures { result ≡ closed (number code) self.detector 0 self.words self.formulas self.answer }
     {
         close(
             code,
@@ -49,7 +50,7 @@ impl Place {
         Ended {
             clause,
             argument,
-            ..self.close(22)
+            ..self.close(Code::Stuck)
         }
     }
 }

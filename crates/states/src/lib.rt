@@ -1,6 +1,8 @@
 // The states of the search: open, or closed with what is answered; the first two tests of document 01, "Detection states".
 #![tactic(auto)]
 
+ghost use Rattle.std.specs.Prelude.{◌≡◌};
+ghost use Rattle.states.specs.Codes.{number};
 ghost use Rattle.states.specs.States.{Somewhere, Looked};
 
 use crate::closing::close;
@@ -21,6 +23,35 @@ pub struct Place {
     pub answer: usize,
     pub kept: usize,
     pub front: usize,
+}
+
+// Why the search closes.
+#[derive(Clone, Copy)]
+pub enum Code {
+    Solved, // the goal is empty
+    Loop, // the leftmost formula is the saved one, and the goal no shorter
+    Stuck, // no head unifies
+    Spent, // the steps are used up
+    TooBig, // the next goal is too big
+    Unknown, // no clause has the predicate in its head
+    AnswerTooBig, // the next answer is too big
+}
+
+// The number of a code (document 01, "Codes"; document 02, C-11 and C-19).
+impl From<Code> for u8 {
+    ghost from_gives = { λ code n. n ≡ number code };
+
+    fn from(code: Code) -> u8 {
+        match code {
+            Code::Solved => 20,
+            Code::Loop => 21,
+            Code::Stuck => 22,
+            Code::Spent => 23,
+            Code::TooBig => 24,
+            Code::Unknown => 26,
+            Code::AnswerTooBig => 27,
+        }
+    }
 }
 
 // How the search closes: the goal is the first `words` words, and the answer the `answer` words behind them (document 02, C-11). "With every
@@ -52,13 +83,13 @@ pub fn look(
     ensures { Looked goal.now saved.now detector words formulas answer kept result }
 {
     if formulas == 0 {
-        return Err(close(20, detector, 0, words, formulas, answer));
+        return Err(close(Code::Solved, detector, 0, words, formulas, answer));
     }
     let front = extent(&goal[..words]);
     let same = same_front(goal, front, saved, kept);
     let Judged { detector, span } = detector.judge(formulas as u32, same);
     match span {
-        Some(span) => Err(close(21, detector, span, words, formulas, answer)),
+        Some(span) => Err(close(Code::Loop, detector, span, words, formulas, answer)),
         None => Ok(Place {
             detector,
             words,

@@ -19,6 +19,17 @@ use words::rows::CELLS;
 use words::shelf::clauses;
 use words::{OUT, WORDS};
 
+// What an apply call answers (document 02, C-16): "20 empty goal, 32 no such clause, 33 head doesn't unify, 24".
+const EMPTY: u8 = 20;
+
+const NO_ROOM: u8 = 24;
+
+const APPLIED: u8 = 25;
+
+const NO_CLAUSE: u8 = 32;
+
+const APART: u8 = 33;
+
 // "Codes 1 to 19 refuse the input .. and give steps, span, bytes and every count 0."
 fn refused(a: Admitted) -> Stepped
     ensures { result ≡ step_refused a }
@@ -44,7 +55,7 @@ fn one_step(clause: usize, bytes: usize) -> Stepped
     ensures { result ≡ one_step clause bytes }
 {
     Stepped {
-        code: 25,
+        code: APPLIED,
         steps: 1,
         bytes: bytes as u32,
         clause: clause as u32,
@@ -83,10 +94,10 @@ fn from_formula(
         rows,
         out,
     ) {
-        Move::Stuck(_, _) => no_step(33),
-        Move::Unknown => no_step(33),
-        Move::Full => no_step(24),
-        Move::Over => no_step(24), // cannot be: there is no answer
+        Move::Stuck(_, _) => no_step(APART),
+        Move::Unknown => no_step(APART),
+        Move::Full => no_step(NO_ROOM),
+        Move::Over => no_step(NO_ROOM), // cannot be: there is no answer
         Move::To(_, n, _, count) => {
             let bytes = put_goal(&out[..n], count, area);
             one_step(call.clause, bytes)
@@ -100,10 +111,10 @@ fn from_goal(book: &[u32], shelf: &[u16], goal: &[u32], call: Call, area: &mut [
     ensures { (P : Book) (g : Goal) → BookOn book.now shelf.now P → GoalIn goal.now call.formulas g → Gives (apply_by P g call.clause) area.old result area.new }
 {
     if call.formulas == 0 {
-        return no_step(20);
+        return no_step(EMPTY);
     }
     if clauses(shelf) <= call.clause {
-        return no_step(32);
+        return no_step(NO_CLAUSE);
     }
     let mut words = [0u32; WORDS];
     let mut rows = [0u16; CELLS];

@@ -30,6 +30,7 @@ pub fn step(book: &[u8], query: &[u8], area: &mut [u8]) -> Stepped
         return not_stepped(1, 0, 0, 0);
     }
     let picked = pick(book, query);
+    // The pick's code is a number, as the README has it.
     if picked.code == 25 {
         return apply(book, query, picked.clause, area);
     }

@@ -33,6 +33,7 @@ pub fn query_number(r: ReadQuery) -> u64
     requires { ReadNarrow (as_text r) }
     ensures { result ≡ query_number r }
 {
+    // No `From`: this is the one place where a query's answer is taken for a text's.
     read_number(ReadText {
         code: r.code,
         place: r.place,

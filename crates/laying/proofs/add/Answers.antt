@@ -4,17 +4,17 @@ use Rattle.laying.proofs.add.Goals as goal
 pub add_name-requires : goal.add_name-requires
 add_name-requires c = search pieces-added
 
-pub returns-then-role-eq1 : goal.returns-then-role-eq1
-returns-then-role-eq1 c = search pieces-added
+pub returns-in-Name : goal.returns-in-Name
+returns-in-Name c = search pieces-added
 
 pub add_variable-requires : goal.add_variable-requires
 add_variable-requires c = search pieces-added
 
-pub returns-then-role-eq2 : goal.returns-then-role-eq2
-returns-then-role-eq2 c = search pieces-added
+pub returns-in-Variable : goal.returns-in-Variable
+returns-in-Variable c = search pieces-added
 
-pub returns-then-role-eq3 : goal.returns-then-role-eq3
-returns-then-role-eq3 c = search pieces-added
+pub returns-in-Closing : goal.returns-in-Closing
+returns-in-Closing c = search pieces-added
 
-pub returns : goal.returns
-returns c = search pieces-added
+pub returns-in_default : goal.returns-in_default
+returns-in_default c = search pieces-added

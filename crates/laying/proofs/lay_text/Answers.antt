@@ -1,8 +1,8 @@
-use Rattle.laying.proofs.Going.{going}
+use Rattle.laying.proofs.Going.{blank-is, going}
 use Rattle.laying.proofs.lay_text.Goals as goal
 
 pub loop-at-init : goal.loop-at-init
-loop-at-init c = search going
+loop-at-init c = search (going, blank-is)
 
 pub add-d-requires : goal.add-d-requires
 add-d-requires c = search going

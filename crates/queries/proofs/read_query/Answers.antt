@@ -11,15 +11,15 @@ returns-then-checked-ne0 c =
     let i : Is c.args.text.now c.args.book.now c.args.names.now c.args.query.now c.args.list.now c.refusal.result c.args.query.now c.args.list.now = bad_book _ _ c.check_book-checked.ensures _ _ _ _ _ c.if-checked-ne0.true c.refusal.ensures in
     record { answer = i.answer; query = i.query_is; list = i.list_is }
 
-pub returns-then-not-known : goal.returns-then-not-known
-returns-then-not-known c =
-    let i : Is c.args.text.now c.args.book.now c.args.names.now c.args.query.now c.args.list.now c.refusal-then-not-known.result c.args.query.now c.args.list.now = bad-list _ _ c.check_book-checked.ensures c.if-checked-ne0.false _ _ c.known_names-known.ensures _ _ _ _ c.if-not-known.true c.refusal-then-not-known.ensures in
-    record { answer = i.answer; query = i.query_is; list = i.list_is }
-
 pub returns-then-found-ne0 : goal.returns-then-found-ne0
 returns-then-found-ne0 c =
-    let i : Is c.args.text.now c.args.book.now c.args.names.now c.args.query.now c.args.list.now c.refusal-then-found-ne0.result c.args.query.now c.args.list.now = bad_text _ _ c.check_book-checked.ensures c.if-checked-ne0.false _ _ c.known_names-known.ensures c.if-not-known.false _ _ c.check_text-found.ensures _ _ _ c.if-found-ne0.true c.refusal-then-found-ne0.ensures in
+    let i : Is c.args.text.now c.args.book.now c.args.names.now c.args.query.now c.args.list.now c.refusal-then-found-ne0.result c.args.query.now c.args.list.now = bad_text _ _ c.check_book-checked.ensures c.if-checked-ne0.false _ _ c.known_names.ensures _ c.in-Some.is _ _ c.check_text-found.ensures _ _ _ c.if-found-ne0.true c.refusal-then-found-ne0.ensures in
     record { answer = i.answer; query = i.query_is; list = i.list_is }
 
 pub read_known-requires : goal.read_known-requires
-read_known-requires c = ready _ _ c.check_book-checked.ensures c.if-checked-ne0.false _ _ c.known_names-known.ensures c.if-not-known.false _ _ c.check_text-found.ensures (λ i. omega (arith, c.shared_slice_known-3-1.given i)) c.if-found-ne0.false
+read_known-requires c = ready _ _ c.check_book-checked.ensures c.if-checked-ne0.false _ _ c.known_names.ensures _ c.in-Some.is _ _ c.check_text-found.ensures (λ i. omega (arith, c.type_inv.names i)) c.if-found-ne0.false
+
+pub returns-in_default : goal.returns-in_default
+returns-in_default c =
+    let i : Is c.args.text.now c.args.book.now c.args.names.now c.args.query.now c.args.list.now c.refusal-in_default.result c.args.query.now c.args.list.now = bad-list _ _ c.check_book-checked.ensures c.if-checked-ne0.false _ c.in_default.ensures _ _ _ _ c.refusal-in_default.ensures in
+    record { answer = i.answer; query = i.query_is; list = i.list_is }
