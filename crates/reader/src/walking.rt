@@ -13,7 +13,7 @@ use stages::variables::number;
 use stages::{Mode, Stage, turn};
 use symbols::NameStore;
 
-// The number of the variable at a place, if there is one.
+// The number of the variable at a place. It is 0 for another piece, since it is read beside `Found::Variable` alone: an `Option` would be taken apart there a second time, and be no plainer.
 fn number_of(text: &[u8], vars: &[u16], n: usize, at: usize, found: Found) -> usize
     requires { ((counts : List ℕ) × ((c : Stage) × ((s : State) × Held text.now counts vars.now c s × (c.variables ≡ n)))) × Shows text.now at found }
     ensures { ((counts : List ℕ) (c : Stage) (s : State) → Held text.now counts vars.now c s → c.variables ≡ n → Numbered text.now at found result s) × (result < 65536) }
