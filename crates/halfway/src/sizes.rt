@@ -6,7 +6,7 @@ use crate::Stage;
 use pieces::{Code, Found, Refusal};
 use words::get;
 
-// The formula here would be the 513th, or the argument the 9th.
+// The formula here would be the 513th, or the argument the 9th. The same of a rule (stages, counting) has another most and another contract, on the reader's states: one function for both would be no plainer.
 fn full(counts: &[u16], depth: usize, outside: usize) -> bool
     requires { depth ≤ length counts.now }
     ensures { result ≡ full_at counts.now depth outside }

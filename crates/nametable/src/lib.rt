@@ -46,6 +46,7 @@ fn is_name(text: &[u8], starts: &[u16], lens: &[u8], i: usize, at: usize, len: u
 }
 
 // The number of the name at a place, where it is not new.
+// The four slices are parts of one storage (symbols, NameStore), lent side by side: a struct of `&mut` slices is no plainer, since each clause would also have to say whose they are.
 fn find(
     text: &[u8],
     starts: &[u16],
@@ -61,6 +62,7 @@ fn find(
     requires len_in_bounds { at + len ≤ length text.now }
     ensures { (names : List (List ℕ)) → Table text.now starts.now lens.now heads.now nexts.now names n → IsPlace result (place (word text.now at len) names) n }
 {
+    // Counted from 1, and 0 where the chain ends: `Option<u16>` would take twice the memory, which is fixed.
     let mut e = get(heads, hash(text, at, len));
     while 0 < e {
         let i = e - 1;

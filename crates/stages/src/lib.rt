@@ -25,6 +25,7 @@ pub enum Mode {
 }
 
 // What may stand next, and the name whose bracket may follow; how many brackets are open; how many formulas, nodes, variables and rules there are.
+// The counts of arguments and the variables' places stand beside it, in slices: most functions read one of the two or neither, and a struct of all three, lent whole, is no plainer.
 #[derive(Clone, Copy)]
 pub struct Stage {
     pub mode: Mode,

@@ -12,6 +12,11 @@ use halfway::sizes::size;
 use halfway::{Mode, Stage};
 use pieces::{Found, Refusal, end_of, piece_at, unexpected};
 
+// A text that is a query's.
+const ACCEPTED: u8 = 0;
+// "the text has over 65,536 bytes"
+const TOO_LONG: u8 = 40;
+
 #[derive(Clone, Copy)]
 pub struct TextCheck {
     pub code: u8,
@@ -89,11 +94,17 @@ pub fn check_text(text: &[u8]) -> TextCheck
     ensures { result ≡ text_check (asking text.now) }
 {
     if 65536 < text.len() {
-        return TextCheck { code: 40, place: 0 };
+        return TextCheck {
+            code: TOO_LONG,
+            place: 0,
+        };
     }
     let mut counts = [0u16; 4097];
     match pass(text, &mut counts) {
-        Ok(()) => TextCheck { code: 0, place: 0 },
+        Ok(()) => TextCheck {
+            code: ACCEPTED,
+            place: 0,
+        },
         Err(refused) => TextCheck {
             code: u8::from(refused.code),
             place: refused.place as u32,
