@@ -13,7 +13,7 @@ ghost use Rattle.namelist.specs.ListLaws.{Stands};
 ghost use Rattle.known.specs.InTurn.{Low, own_of, more_of, started, refused};
 ghost use Rattle.known.specs.Known.{Turned, Knows, sought};
 
-use namelist::{is_list, wide};
+use namelist::is_list;
 use nametable::byte;
 use records::record::number_at;
 
@@ -94,7 +94,7 @@ fn number(s: &[u8], at: usize) -> usize
     requires { at + 1 < length s.now }
     ensures { (result ≡ number_at s.now at) × (result < 65536) }
 {
-    wide(number_at(s, at))
+    usize::from(number_at(s, at))
 }
 
 // Where the entry after the one at a place stands.

@@ -73,6 +73,6 @@ pub set_here : (five : List ℕ) (i d : ℕ) → i < length five → drop i (set
 set_here five i d h =
     drop-cons (set five i d) i 0 (omega (arith, length-set five i d)) ∙ ap₂ (λ (x : ℕ) (y : List ℕ). x ∷ y) (get_or-set_same five i d 0 h) (drop-set-lt (suc i) five i d (omega arith))
 
-pub variable-laid : (v u start at i r : ℕ) (five a b c : List ℕ) → u ≡ v → drop start five ≡ digits 5 u → length five ≡ 5 → Lays a b at i (86 ∷ []) → Lays b c i r (take (5 - start) (drop start five)) → Lays a c at r (variable_name v)
-variable-laid v u start at i r five a b c w e h p q =
-    lays-then a b c at i r (86 ∷ []) (digits 5 v) p (subst (Lays b c i r) (take_all (5 - start) (drop start five) (omega (arith, length-drop start five)) ∙ e ∙ ap (digits 5) w) q)
+pub variable-laid : (v start at i r : ℕ) (five a b c : List ℕ) → drop start five ≡ digits 5 v → length five ≡ 5 → Lays a b at i (86 ∷ []) → Lays b c i r (take (5 - start) (drop start five)) → Lays a c at r (variable_name v)
+variable-laid v start at i r five a b c e h p q =
+    lays-then a b c at i r (86 ∷ []) (digits 5 v) p (subst (Lays b c i r) (take_all (5 - start) (drop start five) (omega (arith, length-drop start five)) ∙ e) q)

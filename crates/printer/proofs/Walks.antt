@@ -35,11 +35,17 @@ module _ (s a c stack stack' : List ℕ) (pen out : Pen) (item : Record) where
   abbrev Wrotes : Record → Type 0
   Wrotes r = (l : List Entry) → Stands s 0 l → Wrote (naming l) a c stack stack' pen out r
 
-  pub item-variable : (v : ℕ) → item ≡ Variable v → ((name : Naming) → Wrote name a c stack stack' pen out (Variable v)) → Wrotes item
-  item-variable v e g l h = subst (Wrote (naming l) a c stack stack' pen out) (inv e) (g (naming l))
+  pub item-variable : (v w : ℕ) → item ≡ Variable v → w ≡ v → ((name : Naming) → Wrote name a c stack stack' pen out (Variable w)) → Wrotes item
+  item-variable v w e f g l h = subst (Wrote (naming l) a c stack stack' pen out) (ap Variable f ∙ inv e) (g (naming l))
 
-  pub item-symbol : (r : Record) → item ≡ r → Wrotes r → Wrotes item
-  item-symbol r e g l h = subst (Wrote (naming l) a c stack stack' pen out) (inv e) (g l h)
+  pub item-constant : (v w : ℕ) → item ≡ Constant v → w ≡ v → Wrotes (Constant w) → Wrotes item
+  item-constant v w e f g l h = subst (Wrote (naming l) a c stack stack' pen out) (ap Constant f ∙ inv e) (g l h)
+
+  pub item-compound : (v w n : ℕ) → item ≡ Compound v n → w ≡ v → Wrotes (Compound w n) → Wrotes item
+  item-compound v w n e f g l h = subst (Wrote (naming l) a c stack stack' pen out) (ap (λ (x : ℕ). Compound x n) f ∙ inv e) (g l h)
+
+  pub item-formula : (v w n : ℕ) → item ≡ Formula v n → w ≡ v → Wrotes (Formula w n) → Wrotes item
+  item-formula v w n e f g l h = subst (Wrote (naming l) a c stack stack' pen out) (ap (λ (x : ℕ). Formula x n) f ∙ inv e) (g l h)
 
 module _ (s a c stack : List ℕ) (pen out : Pen) (item : Record) (r : Room stack pen.top) where
   none : drop 4096 stack ≡ []
@@ -63,7 +69,7 @@ item-goal s a stack pen out item n r e o l h =
     (subst (Wrote (naming l) a a stack stack pen (record { at = pen.at; top = 4096; turn = T.Goal })) (inv e)
     (record { text = lays-none a pen.at; owed = none s a a stack pen out item r; turn = refl; room = record { size = r.size; inside = omega arith } }))
 
-pub ruleset iteming = (item-variable, item-symbol, item-clause, item-end, item-goal)
+pub ruleset iteming = (item-variable, item-constant, item-compound, item-formula, item-clause, item-end, item-goal)
 
 -- The records from a place on
 
@@ -173,14 +179,14 @@ pub ruleset walking = (walking_start, walking-body, walking-length, walking-step
 -- Names
 
 module _ (s : List ℕ) (item : Record) (t : Bool) where
-  pub is-constant : (v : ℕ) → item ≡ Constant v → ((l : List Entry) → Stands s 0 l → t ≡ some (naming l Names.Constant v)) → (l : List Entry) → Stands s 0 l → t ≡ record_named l item
-  is-constant v e g l h = g l h ∙ ap (record_named l) (inv e)
+  pub is-constant : (v w : ℕ) → item ≡ Constant v → w ≡ v → ((l : List Entry) → Stands s 0 l → t ≡ some (naming l Names.Constant w)) → (l : List Entry) → Stands s 0 l → t ≡ record_named l item
+  is-constant v w e f g l h = g l h ∙ ap (λ (x : ℕ). some (naming l Names.Constant x)) f ∙ ap (record_named l) (inv e)
 
-  pub is_compound : (v n : ℕ) → item ≡ Compound v n → ((l : List Entry) → Stands s 0 l → t ≡ some (naming l Names.Compound v)) → (l : List Entry) → Stands s 0 l → t ≡ record_named l item
-  is_compound v n e g l h = g l h ∙ ap (record_named l) (inv e)
+  pub is_compound : (v w n : ℕ) → item ≡ Compound v n → w ≡ v → ((l : List Entry) → Stands s 0 l → t ≡ some (naming l Names.Compound w)) → (l : List Entry) → Stands s 0 l → t ≡ record_named l item
+  is_compound v w n e f g l h = g l h ∙ ap (λ (x : ℕ). some (naming l Names.Compound x)) f ∙ ap (record_named l) (inv e)
 
-  pub is-formula : (v n : ℕ) → item ≡ Formula v n → ((l : List Entry) → Stands s 0 l → t ≡ some (naming l Names.Predicate v)) → (l : List Entry) → Stands s 0 l → t ≡ record_named l item
-  is-formula v n e g l h = g l h ∙ ap (record_named l) (inv e)
+  pub is-formula : (v w n : ℕ) → item ≡ Formula v n → w ≡ v → ((l : List Entry) → Stands s 0 l → t ≡ some (naming l Names.Predicate w)) → (l : List Entry) → Stands s 0 l → t ≡ record_named l item
+  is-formula v w n e f g l h = g l h ∙ ap (λ (x : ℕ). some (naming l Names.Predicate x)) f ∙ ap (record_named l) (inv e)
 
 -- a record of no symbol
 pub is-other : (item : Record) → ((v : ℕ) → item ≡ Constant v → ⊥) → ((v n : ℕ) → item ≡ Compound v n → ⊥) → ((v n : ℕ) → item ≡ Formula v n → ⊥) → (l : List Entry) → true ≡ record_named l item
