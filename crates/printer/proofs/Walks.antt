@@ -22,7 +22,7 @@ use Rattle.namelist.proofs.Walking.{stands_one}
 use Rattle.printouts.specs.declared.Turn.{Turn}
 use Rattle.printouts.specs.declared.Turn.TheVariants as T
 use Rattle.printouts.specs.declared.Turn.TheVariants.{Start, Head}
-use Rattle.printouts.specs.Walk.{ending, walked, piece}
+use Rattle.printouts.specs.Walk.{walked, piece}
 use Rattle.printouts.specs.Laying.{Lays, lays-none, lays-then}
 use Rattle.pen.specs.declared.Pen.{Pen}
 use Rattle.pen.specs.Parts.{Room}
@@ -38,38 +38,14 @@ module _ (s a c stack stack' : List ℕ) (pen out : Pen) (item : Record) where
   pub item-variable : (v w : ℕ) → item ≡ Variable v → w ≡ v → ((name : Naming) → Wrote name a c stack stack' pen out (Variable w)) → Wrotes item
   item-variable v w e f g l h = subst (Wrote (naming l) a c stack stack' pen out) (ap Variable f ∙ inv e) (g (naming l))
 
-  pub item-constant : (v w : ℕ) → item ≡ Constant v → w ≡ v → Wrotes (Constant w) → Wrotes item
-  item-constant v w e f g l h = subst (Wrote (naming l) a c stack stack' pen out) (ap Constant f ∙ inv e) (g l h)
-
-  pub item-compound : (v w n : ℕ) → item ≡ Compound v n → w ≡ v → Wrotes (Compound w n) → Wrotes item
-  item-compound v w n e f g l h = subst (Wrote (naming l) a c stack stack' pen out) (ap (λ (x : ℕ). Compound x n) f ∙ inv e) (g l h)
-
-  pub item-formula : (v w n : ℕ) → item ≡ Formula v n → w ≡ v → Wrotes (Formula w n) → Wrotes item
-  item-formula v w n e f g l h = subst (Wrote (naming l) a c stack stack' pen out) (ap (λ (x : ℕ). Formula x n) f ∙ inv e) (g l h)
-
-module _ (s a c stack : List ℕ) (pen out : Pen) (item : Record) (r : Room stack pen.top) where
-  none : drop 4096 stack ≡ []
-  none = drop_of_length-le stack {i = 4096} (omega (arith, r.size))
-
-  pub item-clause : (n : ℕ) → item ≡ Clause n → Lays a c pen.at out.at (ending pen.turn) × (out.top ≡ 4096) × (out.turn ≡ Head) → (l : List Entry) → Stands s 0 l →
-      Wrote (naming l) a c stack stack pen out item
-  item-clause n e g l h =
-      subst (Wrote (naming l) a c stack stack pen out) (inv e)
-      (record { text = g.0; owed = ap (λ (i : ℕ). drop i stack) g.1 ∙ none; turn = g.2; room = record { size = r.size; inside = omega (arith, g.1) } })
-
-  pub item-end : item ≡ End → Lays a c pen.at out.at (ending pen.turn) × (out.top ≡ 4096) × (out.turn ≡ Start) → (l : List Entry) → Stands s 0 l → Wrote (naming l) a c stack stack pen out item
-  item-end e g l h =
-      subst (Wrote (naming l) a c stack stack pen out) (inv e)
-      (record { text = g.0; owed = ap (λ (i : ℕ). drop i stack) g.1 ∙ none; turn = g.2; room = record { size = r.size; inside = omega (arith, g.1) } })
-
 pub item-goal : (s a stack : List ℕ) (pen out : Pen) (item : Record) (n : ℕ) → Room stack pen.top → item ≡ Goal n → out ≡ record { at = pen.at; top = 4096; turn = T.Goal } → (l : List Entry) → Stands s 0 l →
     Wrote (naming l) a a stack stack pen out item
 item-goal s a stack pen out item n r e o l h =
     subst (λ (x : Pen). Wrote (naming l) a a stack stack pen x item) (inv o)
     (subst (Wrote (naming l) a a stack stack pen (record { at = pen.at; top = 4096; turn = T.Goal })) (inv e)
-    (record { text = lays-none a pen.at; owed = none s a a stack pen out item r; turn = refl; room = record { size = r.size; inside = omega arith } }))
+    (record { text = lays-none a pen.at; owed = drop_of_length-le stack {i = 4096} (omega (arith, r.size)); turn = refl; room = record { size = r.size; inside = omega arith } }))
 
-pub ruleset iteming = (item-variable, item-constant, item-compound, item-formula, item-clause, item-end, item-goal)
+pub ruleset iteming = (item-variable, item-goal)
 
 -- The records from a place on
 

@@ -24,6 +24,9 @@ use records::{check_book, check_query};
 mod naming;
 mod writing;
 
+// The code of a text that is written (document 02, C-14).
+const PRINTED: u8 = 0;
+
 // The text of an image, as far as the area has room; its length, as far as 65,537.
 fn walk(area: &mut [u8], names: &[u8], image: &[u8], stack: &mut [u8]) -> usize
     requires stands { (l : List Entry) × Stands names.now 0 l }
@@ -121,7 +124,7 @@ fn print_image(image: &[u8], names: &[u8], area: &mut [u8]) -> Printout
     }
     write(area, names, image);
     Printout {
-        code: 0,
+        code: PRINTED,
         place: 0,
         bytes: n,
     }

@@ -18,6 +18,9 @@ use scanning::find_arities;
 
 pub mod places; // where a formula stands
 
+// The code of a text that is read (document 02, C-13).
+const READ: u8 = 0;
+
 fn refusal(code: u8, place: usize) -> ReadText
     requires { place ≤ 65536 }
     ensures { result ≡ refusal code place }
@@ -118,7 +121,7 @@ fn give(
     put_bytes(book, image, 0, image.len());
     put_list(names, text, starts, lens, b);
     ReadText {
-        code: 0,
+        code: READ,
         place: 0,
         book: image.len() as u32,
         names: size as u32,
