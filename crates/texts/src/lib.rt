@@ -36,10 +36,10 @@ fn refusal(code: u8, place: usize) -> ReadText
 // Why a text is refused that the reader did not refuse.
 #[derive(Clone, Copy)]
 enum Fault {
-    Text,    // the text is too long
-    Book,    // the finished book is too long
+    Text, // the text is too long
+    Book, // the finished book is too long
     Arities, // a predicate has two arities
-    Room,    // an area is too small
+    Room, // an area is too small
 }
 
 // The number of a fault in the table of codes (document 02, C-13).

@@ -1,5 +1,5 @@
-use Rattle.pen.proofs.Stacks.{closing-rules}
+use Rattle.pen.proofs.Stacks.{closing-step}
 use Rattle.pen.proofs.brackets.close.Goals as goal
 
 pub loop-i-preserved : goal.loop-i-preserved
-loop-i-preserved c = search closing-rules
+loop-i-preserved c = search closing-step
