@@ -75,6 +75,3 @@ pub ruleset clearing = (clearing-start, clearing-step, clearing-less, clearing-w
 pub long_same : (book answer : List ℕ) (r : Check) → 16387 < length answer → r ≡ query_verdict book answer → r ≡ answer_verdict book answer
 unfolding query_verdict verdict
 long_same book answer r h e = e ∙ rw (lt-ltb 16387 (length answer) h, lt-ltb 16387 (length (unnumbered answer)) (omega (arith, cleared-length (length answer) answer 0))) refl
-
-pub cleared-check : (book s s' : List ℕ) (r : Check) → s' ≡ unnumbered s → r ≡ query_verdict book s' → r ≡ answer_verdict book s
-cleared-check book s s' r e f = f ∙ ap (query_verdict book) e

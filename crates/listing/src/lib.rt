@@ -34,7 +34,7 @@ pub fn put_entry(
     len + 4
 }
 
-// The names of a section of a table, numbered from 0, at the area's front.
+// The names of a section of a table, numbered from 0, at the area's front. The kind is the byte that entries have in the list (`noted`).
 pub fn put_names(area: &mut [u8], text: &[u8], starts: &[u16], lens: &[u8], kind: u8) -> usize
     requires count { length starts.now ≤ 65536 }
     requires within { Within text.now starts.now lens.now }

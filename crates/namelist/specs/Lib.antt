@@ -3,6 +3,7 @@ pub mod List
 pub mod Bytes
 pub mod ListLaws
 pub mod Tests
+pub mod ApartLaws
 pub mod Meaning
 pub mod NamingLaws
 pub mod Table

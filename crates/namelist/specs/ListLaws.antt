@@ -63,8 +63,3 @@ stands-end s at (x ∷ l) h g = absurd (omega (arith, (entered s at x l h).room)
 
 pub stands-more : (s : List ℕ) (at : ℕ) → Stands s at [] → length s ≤ at
 stands-more s at h = omega (arith, ap length h.here, length-drop at s)
-
--- a name stands here
-pub record NamesIt (s : List ℕ) (start len : ℕ) (w : List ℕ) : Type 0 where
-  pub inside : start + len ≤ length s
-  pub name_is : take len (drop start s) ≡ w

@@ -1,6 +1,6 @@
 -- Bytes are a name list just if they pass the test entry by entry, and then of those entries alone.
 use Prim.Native.Nat.{ℕ, zero, suc, ◌+◌, ◌*◌, ◌/◌, ◌%◌, ◌≤◌, ◌<◌}
-use Rattle.std.specs.Prelude.{◌≡◌, false, ◌&&◌, eqb, ltb, length, get_or, drop}
+use Rattle.std.specs.Prelude.{◌≡◌, false, eqb, ltb, length, get_or, drop}
 use Rattle.std.proofs.Math.Path.{refl, ap₂}
 use Rattle.std.proofs.Common.{sym as inv, ap, ◌∙◌, subst, arith, length-append, length-drop, take-append-drop, drop-cons, drop-drop, length-take-le}
 use Rattle.std.proofs.Math.Bool.{true}
@@ -11,14 +11,12 @@ use Rattle.terms.specs.Cases.{cases}
 use Rattle.terms.specs.When.{◌⇒◌∣◌}
 use Rattle.format.specs.Format.{Bytes}
 use Rattle.format.specs.Reading.{number_at}
-use Rattle.grammar.specs.Names.{Sort, Constant, Compound, Predicate, kind, same_name, is_sort}
-use Rattle.grammar.specs.NameLaws.{same_true, same_refl}
-use Rattle.grammar.specs.GrowLaws.{is-sort_self}
-use Rattle.printing.proofs.OrderLaws.{same-sort}
-use Rattle.namelist.specs.List.{Entry, listed, Before, ToEach, Along, Proper, Apart, IsList}
-use Rattle.namelist.specs.Bytes.{is_name, sort_of, length_at, name_at, entry_at, rank, rank_at, past, entry_good, good_from, entries_from, entries_of, shares, unshared, all_unshared, is_list}
+use Rattle.grammar.specs.Names.{Sort, Constant, Compound, Predicate, kind}
+use Rattle.namelist.specs.List.{Entry, listed, Before, Along, Proper, IsList}
+use Rattle.namelist.specs.Bytes.{is_name, sort_of, length_at, name_at, entry_at, rank, rank_at, past, entry_good, good_from, entries_from, entries_of, all_unshared, is_list}
 use Rattle.namelist.specs.ListLaws.{Stands, entered, stands-more}
-use Rattle.namelist.specs.Tests.{no_test, failed, unfailed, passed, behind, name-means, name_is, EntryGood, good-means, good_is, rank_of, Above, above_lower, before_above, above_before}
+use Rattle.namelist.specs.ApartLaws.{all-means, all-is}
+use Rattle.namelist.specs.Tests.{no_test, passed, behind, name-means, name_is, EntryGood, good-means, good_is, rank_of, Above, above_lower, before_above, above_before}
 
 -- What passes is a list
 
@@ -176,33 +174,6 @@ module _ (s : List ℕ) where
         good = rw (t, good_is s at floor (good-entered at floor x l h a.0)) v.good;
         entries = rw t (ap₂ (λ (y : Entry) (m : List Entry). y ∷ m) (entry-is at x l h) v.entries);
       }
-
--- Names apart
-
-shares-true : (x y : Entry) → shares x y ≡ true → (x.sort ≡ y.sort) × (x.name ≡ y.name)
-shares-true x y e = cases (is_sort x.sort y.sort) (λ t. (inv (same-sort x.sort y.sort t), same_true x.name y.name (rw t at e))) (λ t. no_test (rw t at e))
-
-shares-same : (x y : Entry) → x.sort ≡ y.sort → x.name ≡ y.name → shares x y ≡ true
-shares-same x y p q =
-    ap₂ (λ (k : Sort) (w : List ℕ). is_sort k y.sort && same_name w y.name) p q
-    ∙ rw (is-sort_self y.sort) (same_refl y.name)
-
-unshared-means : (x : Entry) (l : List Entry) → unshared x l ≡ true → ToEach (Apart x) l
-unshared-means x [] e = tt
-unshared-means x (y ∷ l) e =
-    (λ p q. no_test (inv (failed (shares x y) _ e) ∙ shares-same x y p q), unshared-means x l (unfailed (shares x y) _ e))
-
-unshared-is : (x : Entry) (l : List Entry) → ToEach (Apart x) l → unshared x l ≡ true
-unshared-is x [] h = refl
-unshared-is x (y ∷ l) h = cases (shares x y) (λ t. let p = shares-true x y t in absurd (h.0 p.0 p.1)) (λ t. rw t (unshared-is x l h.1))
-
-all-means : (l : List Entry) → all_unshared l ≡ true → Along Apart l
-all-means [] e = tt
-all-means (x ∷ l) e = (unshared-means x l (passed (unshared x l) _ e), all-means l (behind (unshared x l) _ e))
-
-all-is : (l : List Entry) → Along Apart l → all_unshared l ≡ true
-all-is [] h = refl
-all-is (x ∷ l) h = rw (unshared-is x l h.0) (all-is l h.1)
 
 -- The two together
 

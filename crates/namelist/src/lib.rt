@@ -31,12 +31,6 @@ fn all_go_on(rest: &[u8]) -> bool
     rest.iter().all(|b| goes_on(*b))
 }
 
-pub fn wide(x: u16) -> usize
-    ensures { (result ≡ x) × (result < 65536) }
-{
-    x as usize
-}
-
 // A symbol's rank among all, by kind and then number.
 fn rank_at(s: &[u8], at: usize) -> usize
     requires { at + 4 ≤ length s.now }
@@ -174,15 +168,15 @@ fn kind(sort: Sort) -> u8
 }
 
 // Whether the entry at a place is that of a symbol.
-fn is_entry(s: &[u8], at: usize, kind: u8, wanted: u16) -> bool
+fn is_entry(s: &[u8], at: usize, kind: u8, wanted: usize) -> bool
     requires { at + 4 ≤ length s.now }
     ensures { result ≡ (eqb kind (get_or s.now at 0) && eqb wanted (number_at s.now (at + 1))) }
 {
-    s[at] == kind && number_at(s, at + 1) == wanted
+    s[at] == kind && usize::from(number_at(s, at + 1)) == wanted
 }
 
 // The name of a symbol in a list.
-pub fn find(s: &[u8], sort: Sort, wanted: u16) -> Option<&[u8]>
+pub fn find(s: &[u8], sort: Sort, wanted: usize) -> Option<&[u8]>
     requires { (l : List Entry) × Stands s.now 0 l }
     ensures { (l : List Entry) → Stands s.now 0 l → GivesName result (naming l (sort_named sort) wanted) }
 {

@@ -2,30 +2,17 @@
 use Rattle.std.specs.Prelude.{Option, Some, None}
 use Rattle.std.proofs.Common.{Bor}
 use Prim.Native.Nat.{ℕ, zero, suc, ◌+◌, ◌-◌, ◌*◌, ◌≤◌, ◌<◌}
-use mathlib.Core.Path.{◌≡◌, refl, sym as inv, ap, ap₂, ◌∙◌, subst}
+use mathlib.Core.Path.{◌≡◌, refl, sym as inv, ap, ◌∙◌, subst}
 use mathlib.Core.List.{List, [], ◌∷◌, ◌++◌}
 use native.Mathlib.Omega.{arith}
-use borrow.Author.Tests.{lt-ltb, le-ltb}
 use lib.ListN.{length, get_or, set, take, drop, length-set, length-drop}
-use lib.Seq.{set_out, take-suc, take_all, drop-cons, get_or-set_same, drop-set-lt}
+use lib.Seq.{take-suc, take_all}
 use Rattle.grammar.specs.Names.{Sort}
 use Rattle.printing.specs.Named.{digits, variable_name}
 use Rattle.namelist.specs.List.{Entry, naming}
 use Rattle.namelist.specs.ListLaws.{Stands}
 use Rattle.namelist.specs.NamingLaws.{GivesName}
 use Rattle.printouts.specs.Laying.{up, lay, Lays, lays-none, lays-then}
-
-pub store_out : (area : List ℕ) (at b : ℕ) → length area ≤ at → area ≡ set area at b
-store_out area at b h = inv (set_out area at b h)
-
-pub up_more : (at : ℕ) → at < 65537 → at + 1 ≡ up at
-up_more at h = inv (rw (lt-ltb at 65537 h))
-
-pub up-last : (at : ℕ) → 65537 ≤ at → at ≡ up at
-up-last at h = inv (rw (le-ltb at 65537 h))
-
-pub put_one : (area area' : List ℕ) (at r b : ℕ) → area' ≡ set area at b → r ≡ up at → Lays area area' at r (b ∷ [])
-put_one area area' at r b e f = record { area_is = e; end_is = f }
 
 lay-length : (area : List ℕ) (at : ℕ) (w : List ℕ) → length (lay area at w) ≡ length area
 lay-length area at [] = refl
@@ -34,18 +21,11 @@ lay-length area at (b ∷ w) = lay-length (set area at b) (up at) w ∙ length-s
 pub lays-length : (area area' : List ℕ) (at r : ℕ) (w : List ℕ) → Lays area area' at r w → length area' ≡ length area
 lays-length area area' at r w l = ap length l.area_is ∙ lay-length area at w
 
-pub ruleset laying = (store_out, up_more, up-last, put_one)
-
 -- Bytes one by one
 
 pub laying-next : (area₀ area area' s : List ℕ) (at end r i : ℕ) → i < length s → Lays area₀ area at end (take i s) → Lays area area' end r (get_or s i 0 ∷ []) → Lays area₀ area' at r (take (i + 1) s)
 laying-next area₀ area area' s at end r i h p q =
     subst (Lays area₀ area' at r) (inv (take-suc s i 0 h) ∙ ap (λ (k : ℕ). take k s) (let q : suc i ≡ i + 1 = omega arith in q)) (lays-then area₀ area area' at end r (take i s) (get_or s i 0 ∷ []) p q)
-
-pub laying-end : (area₀ area s : List ℕ) (at end i : ℕ) → length s ≤ i → Lays area₀ area at end (take i s) → Lays area₀ area at end s
-laying-end area₀ area s at end i h p = subst (Lays area₀ area at end) (take_all i s h) p
-
-pub ruleset copying = (lays-none, laying-next, laying-end, lays-length)
 
 -- A symbol's name
 
@@ -69,10 +49,6 @@ pub record Digits (v : ℕ) (five : List ℕ) (n i : ℕ) : Type 0 where
   pub low : n < ten (suc i)
   pub rest : digits (suc i) n ++ drop (suc i) five ≡ digits 5 v
 
-pub set_here : (five : List ℕ) (i d : ℕ) → i < length five → drop i (set five i d) ≡ d ∷ drop (suc i) five
-set_here five i d h =
-    drop-cons (set five i d) i 0 (omega (arith, length-set five i d)) ∙ ap₂ (λ (x : ℕ) (y : List ℕ). x ∷ y) (get_or-set_same five i d 0 h) (drop-set-lt (suc i) five i d (omega arith))
-
-pub variable-laid : (v u start at i r : ℕ) (five a b c : List ℕ) → u ≡ v → drop start five ≡ digits 5 u → length five ≡ 5 → Lays a b at i (86 ∷ []) → Lays b c i r (take (5 - start) (drop start five)) → Lays a c at r (variable_name v)
-variable-laid v u start at i r five a b c w e h p q =
-    lays-then a b c at i r (86 ∷ []) (digits 5 v) p (subst (Lays b c i r) (take_all (5 - start) (drop start five) (omega (arith, length-drop start five)) ∙ e ∙ ap (digits 5) w) q)
+pub variable-laid : (v start at i r : ℕ) (five a b c : List ℕ) → drop start five ≡ digits 5 v → length five ≡ 5 → Lays a b at i (86 ∷ []) → Lays b c i r (take (5 - start) (drop start five)) → Lays a c at r (variable_name v)
+variable-laid v start at i r five a b c e h p q =
+    lays-then a b c at i r (86 ∷ []) (digits 5 v) p (subst (Lays b c i r) (take_all (5 - start) (drop start five) (omega (arith, length-drop start five)) ∙ e) q)

@@ -40,7 +40,7 @@ pub fn put_all(area: &mut [u8], at: usize, bytes: &[u8]) -> usize
 }
 
 // The name of a symbol; nothing, if it has none.
-pub fn put_symbol(area: &mut [u8], at: usize, names: &[u8], sort: Sort, number: u16) -> usize
+pub fn put_symbol(area: &mut [u8], at: usize, names: &[u8], sort: Sort, number: usize) -> usize
     requires { (l : List Entry) × Stands names.now 0 l }
     ensures { (l : List Entry) → Stands names.now 0 l → Lays area.old area.new at result (naming l (sort_named sort) number) }
 {
@@ -75,11 +75,12 @@ fn set_digits(five: &mut [u8], v: usize) -> usize
 }
 
 // "variables as `V0`, `V1` and so on"
-pub fn put_variable(area: &mut [u8], at: usize, v: u16) -> usize
+pub fn put_variable(area: &mut [u8], at: usize, v: usize) -> usize
+    requires { v < 100000 }
     ensures { Lays area.old area.new at result (variable_name v) }
 {
     let mut five = [0u8; 5];
-    let start = set_digits(&mut five, usize::from(v));
+    let start = set_digits(&mut five, v);
     let end = put(area, at, b'V');
     put_all(area, end, &five[start..])
 }

@@ -22,7 +22,7 @@ use Rattle.namelist.proofs.Walking.{stands_one}
 use Rattle.printouts.specs.declared.Turn.{Turn}
 use Rattle.printouts.specs.declared.Turn.TheVariants as T
 use Rattle.printouts.specs.declared.Turn.TheVariants.{Start, Head}
-use Rattle.printouts.specs.Walk.{ending, walked, piece}
+use Rattle.printouts.specs.Walk.{walked, piece}
 use Rattle.printouts.specs.Laying.{Lays, lays-none, lays-then}
 use Rattle.pen.specs.declared.Pen.{Pen}
 use Rattle.pen.specs.Parts.{Room}
@@ -35,35 +35,17 @@ module _ (s a c stack stack' : List ℕ) (pen out : Pen) (item : Record) where
   abbrev Wrotes : Record → Type 0
   Wrotes r = (l : List Entry) → Stands s 0 l → Wrote (naming l) a c stack stack' pen out r
 
-  pub item-variable : (v : ℕ) → item ≡ Variable v → ((name : Naming) → Wrote name a c stack stack' pen out (Variable v)) → Wrotes item
-  item-variable v e g l h = subst (Wrote (naming l) a c stack stack' pen out) (inv e) (g (naming l))
-
-  pub item-symbol : (r : Record) → item ≡ r → Wrotes r → Wrotes item
-  item-symbol r e g l h = subst (Wrote (naming l) a c stack stack' pen out) (inv e) (g l h)
-
-module _ (s a c stack : List ℕ) (pen out : Pen) (item : Record) (r : Room stack pen.top) where
-  none : drop 4096 stack ≡ []
-  none = drop_of_length-le stack {i = 4096} (omega (arith, r.size))
-
-  pub item-clause : (n : ℕ) → item ≡ Clause n → Lays a c pen.at out.at (ending pen.turn) × (out.top ≡ 4096) × (out.turn ≡ Head) → (l : List Entry) → Stands s 0 l →
-      Wrote (naming l) a c stack stack pen out item
-  item-clause n e g l h =
-      subst (Wrote (naming l) a c stack stack pen out) (inv e)
-      (record { text = g.0; owed = ap (λ (i : ℕ). drop i stack) g.1 ∙ none; turn = g.2; room = record { size = r.size; inside = omega (arith, g.1) } })
-
-  pub item-end : item ≡ End → Lays a c pen.at out.at (ending pen.turn) × (out.top ≡ 4096) × (out.turn ≡ Start) → (l : List Entry) → Stands s 0 l → Wrote (naming l) a c stack stack pen out item
-  item-end e g l h =
-      subst (Wrote (naming l) a c stack stack pen out) (inv e)
-      (record { text = g.0; owed = ap (λ (i : ℕ). drop i stack) g.1 ∙ none; turn = g.2; room = record { size = r.size; inside = omega (arith, g.1) } })
+  pub item-variable : (v w : ℕ) → item ≡ Variable v → w ≡ v → ((name : Naming) → Wrote name a c stack stack' pen out (Variable w)) → Wrotes item
+  item-variable v w e f g l h = subst (Wrote (naming l) a c stack stack' pen out) (ap Variable f ∙ inv e) (g (naming l))
 
 pub item-goal : (s a stack : List ℕ) (pen out : Pen) (item : Record) (n : ℕ) → Room stack pen.top → item ≡ Goal n → out ≡ record { at = pen.at; top = 4096; turn = T.Goal } → (l : List Entry) → Stands s 0 l →
     Wrote (naming l) a a stack stack pen out item
 item-goal s a stack pen out item n r e o l h =
     subst (λ (x : Pen). Wrote (naming l) a a stack stack pen x item) (inv o)
     (subst (Wrote (naming l) a a stack stack pen (record { at = pen.at; top = 4096; turn = T.Goal })) (inv e)
-    (record { text = lays-none a pen.at; owed = none s a a stack pen out item r; turn = refl; room = record { size = r.size; inside = omega arith } }))
+    (record { text = lays-none a pen.at; owed = drop_of_length-le stack {i = 4096} (omega (arith, r.size)); turn = refl; room = record { size = r.size; inside = omega arith } }))
 
-pub ruleset iteming = (item-variable, item-symbol, item-clause, item-end, item-goal)
+pub ruleset iteming = (item-variable, item-goal)
 
 -- The records from a place on
 
@@ -173,14 +155,14 @@ pub ruleset walking = (walking_start, walking-body, walking-length, walking-step
 -- Names
 
 module _ (s : List ℕ) (item : Record) (t : Bool) where
-  pub is-constant : (v : ℕ) → item ≡ Constant v → ((l : List Entry) → Stands s 0 l → t ≡ some (naming l Names.Constant v)) → (l : List Entry) → Stands s 0 l → t ≡ record_named l item
-  is-constant v e g l h = g l h ∙ ap (record_named l) (inv e)
+  pub is-constant : (v w : ℕ) → item ≡ Constant v → w ≡ v → ((l : List Entry) → Stands s 0 l → t ≡ some (naming l Names.Constant w)) → (l : List Entry) → Stands s 0 l → t ≡ record_named l item
+  is-constant v w e f g l h = g l h ∙ ap (λ (x : ℕ). some (naming l Names.Constant x)) f ∙ ap (record_named l) (inv e)
 
-  pub is_compound : (v n : ℕ) → item ≡ Compound v n → ((l : List Entry) → Stands s 0 l → t ≡ some (naming l Names.Compound v)) → (l : List Entry) → Stands s 0 l → t ≡ record_named l item
-  is_compound v n e g l h = g l h ∙ ap (record_named l) (inv e)
+  pub is_compound : (v w n : ℕ) → item ≡ Compound v n → w ≡ v → ((l : List Entry) → Stands s 0 l → t ≡ some (naming l Names.Compound w)) → (l : List Entry) → Stands s 0 l → t ≡ record_named l item
+  is_compound v w n e f g l h = g l h ∙ ap (λ (x : ℕ). some (naming l Names.Compound x)) f ∙ ap (record_named l) (inv e)
 
-  pub is-formula : (v n : ℕ) → item ≡ Formula v n → ((l : List Entry) → Stands s 0 l → t ≡ some (naming l Names.Predicate v)) → (l : List Entry) → Stands s 0 l → t ≡ record_named l item
-  is-formula v n e g l h = g l h ∙ ap (record_named l) (inv e)
+  pub is-formula : (v w n : ℕ) → item ≡ Formula v n → w ≡ v → ((l : List Entry) → Stands s 0 l → t ≡ some (naming l Names.Predicate w)) → (l : List Entry) → Stands s 0 l → t ≡ record_named l item
+  is-formula v w n e f g l h = g l h ∙ ap (λ (x : ℕ). some (naming l Names.Predicate x)) f ∙ ap (record_named l) (inv e)
 
 -- a record of no symbol
 pub is-other : (item : Record) → ((v : ℕ) → item ≡ Constant v → ⊥) → ((v n : ℕ) → item ≡ Compound v n → ⊥) → ((v n : ℕ) → item ≡ Formula v n → ⊥) → (l : List Entry) → true ≡ record_named l item

@@ -11,6 +11,7 @@ ghost use Rattle.printouts.specs.Laying.{Lays, reach};
 ghost use Rattle.printouts.specs.Outcome.{refusal, print_answer, print_area, goal_answer, goal_area};
 ghost use Rattle.printouts.specs.Answer.{found_answer, found_area};
 ghost use Rattle.printer.specs.Parts.{items, PrintsImage};
+ghost use Rattle.printer.specs.Faults.{number};
 
 use crate::naming::{all_named, check_names};
 use crate::writing::put_record;
@@ -22,6 +23,9 @@ use records::{check_book, check_query};
 
 mod naming;
 mod writing;
+
+// The code of a text that is written (document 02, C-14).
+const PRINTED: u8 = 0;
 
 // The text of an image, as far as the area has room; its length, as far as 65,537.
 fn walk(area: &mut [u8], names: &[u8], image: &[u8], stack: &mut [u8]) -> usize
@@ -62,6 +66,7 @@ fn write(area: &mut [u8], names: &[u8], image: &[u8]) -> usize
     walk(area, names, image, &mut stack)
 }
 
+// What is answered for a book or a goal that its check refuses: what the check said.
 fn refusal(code: u8, place: usize) -> Printout
     ensures { result ≡ refusal code place }
 {
@@ -72,27 +77,54 @@ fn refusal(code: u8, place: usize) -> Printout
     }
 }
 
+// Why the text of a good image is not written.
+#[derive(Clone, Copy)]
+enum Fault {
+    Unnamed, // a used symbol has no name
+    NoList, // the names are no list
+    NoRoom, // the text is too long, or the area too small
+}
+
+// The number of a fault in the table of codes (document 02, C-14).
+impl From<Fault> for u8 {
+    ghost from_gives = { λ fault n. n ≡ number fault };
+
+    fn from(fault: Fault) -> u8 {
+        match fault {
+            Fault::Unnamed => 44,
+            Fault::NoList => 45,
+            Fault::NoRoom => 46,
+        }
+    }
+}
+
+fn refused(why: Fault) -> Printout
+    ensures { result ≡ refusal (number why) 0 }
+{
+    refusal(u8::from(why), 0)
+}
+
 // What is answered for an image that its check found good.
 fn print_image(image: &[u8], names: &[u8], area: &mut [u8]) -> Printout
     requires { image.now ≡ encode (items image.now) }
     ensures { PrintsImage image.now names.now area.old area.new result }
 {
     if !check_names(names) {
-        return refusal(45, 0);
+        return refused(Fault::NoList);
     }
     if !all_named(names, image) {
-        return refusal(44, 0);
+        return refused(Fault::Unnamed);
     }
     let n = measure(names, image);
     if 65536 < n {
-        return refusal(46, 0);
+        return refused(Fault::NoRoom);
     }
     if area.len() < n {
-        return refusal(46, 0);
+        return refused(Fault::NoRoom);
     }
     write(area, names, image);
     Printout {
-        code: 0,
+        code: PRINTED,
         place: 0,
         bytes: n,
     }

@@ -11,7 +11,7 @@ use format::Record;
 use namelist::{Sort, find, is_list};
 use records::record::{next_at, record_at};
 
-fn has_name(names: &[u8], sort: Sort, number: u16) -> bool
+fn has_name(names: &[u8], sort: Sort, number: usize) -> bool
     requires { (l : List Entry) × Stands names.now 0 l }
     ensures { (l : List Entry) → Stands names.now 0 l → result ≡ some (naming l (sort_named sort) number) }
 {
@@ -23,9 +23,9 @@ fn is_named(names: &[u8], item: Record) -> bool
     ensures { (l : List Entry) → Stands names.now 0 l → result ≡ record_named l item }
 {
     match item {
-        Record::Constant(c) => has_name(names, Sort::Constant, c),
-        Record::Compound(f, _) => has_name(names, Sort::Compound, f),
-        Record::Formula(p, _) => has_name(names, Sort::Predicate, p),
+        Record::Constant(c) => has_name(names, Sort::Constant, usize::from(c)),
+        Record::Compound(f, _) => has_name(names, Sort::Compound, usize::from(f)),
+        Record::Formula(p, _) => has_name(names, Sort::Predicate, usize::from(p)),
         _ => true,
     }
 }

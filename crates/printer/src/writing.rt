@@ -1,5 +1,5 @@
 // What each record adds to the text.
-ghost use Rattle.std.specs.Prelude.{◌≡◌, List};
+ghost use Rattle.std.specs.Prelude.{◌≡◌, List, ◌<◌};
 ghost use Rattle.format.specs.declared.Record.TheVariants.{Variable, Constant, Compound, Formula};
 ghost use Rattle.printing.specs.Named.{Naming};
 ghost use Rattle.namelist.specs.List.{Entry, naming};
@@ -17,15 +17,15 @@ use pen::laying::{put, put_symbol, put_variable};
 use pen::signs::{next_turn, put_ending, put_sign};
 use printouts::Turn;
 
-fn write_variable(area: &mut [u8], stack: &mut [u8], pen: Pen, v: u16) -> Pen
-    requires { Room stack.old pen.top }
+fn write_variable(area: &mut [u8], stack: &mut [u8], pen: Pen, v: usize) -> Pen
+    requires { Room stack.old pen.top × (v < 65536) }
     ensures { (name : Naming) → Wrote name area.old area.new stack.old stack.new pen result (Variable v) }
 {
     let end = put_variable(area, pen.at, v);
     end_term(area, stack, Pen { at: end, ..pen })
 }
 
-fn write_constant(area: &mut [u8], names: &[u8], stack: &mut [u8], pen: Pen, c: u16) -> Pen
+fn write_constant(area: &mut [u8], names: &[u8], stack: &mut [u8], pen: Pen, c: usize) -> Pen
     requires stands { (l : List Entry) × Stands names.now 0 l }
     requires room { Room stack.old pen.top }
     ensures { (l : List Entry) → Stands names.now 0 l → Wrote (naming l) area.old area.new stack.old stack.new pen result (Constant c) }
@@ -34,7 +34,7 @@ fn write_constant(area: &mut [u8], names: &[u8], stack: &mut [u8], pen: Pen, c: 
     end_term(area, stack, Pen { at: end, ..pen })
 }
 
-fn write_compound(area: &mut [u8], names: &[u8], stack: &mut [u8], pen: Pen, f: u16, n: u8) -> Pen
+fn write_compound(area: &mut [u8], names: &[u8], stack: &mut [u8], pen: Pen, f: usize, n: u8) -> Pen
     requires stands { (l : List Entry) × Stands names.now 0 l }
     requires room { Room stack.old pen.top }
     ensures { (l : List Entry) → Stands names.now 0 l → Wrote (naming l) area.old area.new stack.old stack.new pen result (Compound f n) }
@@ -50,7 +50,7 @@ fn write_compound(area: &mut [u8], names: &[u8], stack: &mut [u8], pen: Pen, f: 
     }
 }
 
-fn write_formula(area: &mut [u8], names: &[u8], stack: &mut [u8], pen: Pen, p: u16, n: u8) -> Pen
+fn write_formula(area: &mut [u8], names: &[u8], stack: &mut [u8], pen: Pen, p: usize, n: u8) -> Pen
     requires stands { (l : List Entry) × Stands names.now 0 l }
     requires room { Room stack.old pen.top }
     ensures { (l : List Entry) → Stands names.now 0 l → Wrote (naming l) area.old area.new stack.old stack.new pen result (Formula p n) }
@@ -88,10 +88,10 @@ pub fn put_record(area: &mut [u8], names: &[u8], stack: &mut [u8], pen: Pen, ite
     ensures { (l : List Entry) → Stands names.now 0 l → Wrote (naming l) area.old area.new stack.old stack.new pen result item }
 {
     match item {
-        Record::Variable(v) => write_variable(area, stack, pen, v),
-        Record::Constant(c) => write_constant(area, names, stack, pen, c),
-        Record::Compound(f, n) => write_compound(area, names, stack, pen, f, n),
-        Record::Formula(p, n) => write_formula(area, names, stack, pen, p, n),
+        Record::Variable(v) => write_variable(area, stack, pen, usize::from(v)),
+        Record::Constant(c) => write_constant(area, names, stack, pen, usize::from(c)),
+        Record::Compound(f, n) => write_compound(area, names, stack, pen, usize::from(f), n),
+        Record::Formula(p, n) => write_formula(area, names, stack, pen, usize::from(p), n),
         Record::Clause(_) => write_ending(area, pen, Turn::Head),
         Record::Goal(_) => Pen {
             top: 4096,

@@ -1,7 +1,7 @@
 // What printing answers (document 02, C-14), with no code: the definitions and what is proved of them are in specs.
 #![tactic(auto)]
 
-// "code, place"; and the text's bytes.
+// "code, place"; and the text's bytes. No Result: C gets these numbers as one (textnumbers), and 0 is one of its codes.
 #[derive(Clone, Copy)]
 pub struct Printout {
     pub code: u8,

@@ -108,9 +108,6 @@ module _ (text starts lens : List ℕ) (b : Draft) (named : Named text starts le
     fill₁ : Filling (list_bytes text starts lens b) area area₁ r (second ++ third)
     fill₁ = record { room = omega (arith, list-long, room); front = first; long = inv w.count; written = w.holds; same = refl }
 
-    pub second-start : r ≤ length area₁
-    second-start = omega (arith, filling-left fill₁, filling-length fill₁, fill₁.room)
-
     pub second-room : sizes (part 11264 b.compounds lens) ≤ length (take (length area₁ - r) (drop r area₁))
     second-room =
         omega (arith, second-long, length-append second third, filling-left fill₁, filling-length fill₁, fill₁.room, length-take-le (length area₁ - r) (drop r area₁) (omega (arith, length-drop r area₁)))
@@ -118,9 +115,6 @@ module _ (text starts lens : List ℕ) (b : Draft) (named : Named text starts le
     module _ (part₂ area₂ : List ℕ) (s : ℕ) (w₂ : Written second (take (length area₁ - r) (drop r area₁)) part₂ s) (e : area₂ ≡ put_mid r (length area₁ - r) area₁ part₂) where
       fill₂ : Filling (list_bytes text starts lens b) area area₂ (r + s) (third ++ [])
       fill₂ = subst (λ (x : List ℕ). Filling (list_bytes text starts lens b) area x (r + s) (third ++ [])) (inv e) (subst (Filling (list_bytes text starts lens b) area (put_mid r (length area₁ - r) area₁ part₂) (r + s)) (inv (append-nil third)) (filling-part fill₁ w₂))
-
-      pub third-start : r + s ≤ length area₂
-      third-start = omega (arith, filling-left fill₂, filling-length fill₂, fill₂.room)
 
       pub third-counted : r + s ≤ length area
       third-counted = omega (arith, filling-left fill₂, fill₂.room)
@@ -135,9 +129,6 @@ module _ (text starts lens : List ℕ) (b : Draft) (named : Named text starts le
 
         pub list_written : Written (list_bytes text starts lens b) area (put_mid (r + s) (length area₂ - (r + s)) area₂ part₃) (r + s + t)
         list_written = filling-done fill₃
-
-        pub list-kept : length (put_mid (r + s) (length area₂ - (r + s)) area₂ part₃) ≡ length area
-        list-kept = filling-length fill₃
 
         pub list_counted : r + s + t ≤ length area
         list_counted = omega (arith, filling-left fill₃, fill₃.room)

@@ -5,6 +5,7 @@ ghost use Rattle.std.specs.Prelude.{◌≡◌, ◌<◌, ◌≤◌, length, Ok};
 ghost use Rattle.storage.specs.Storage.{Written};
 ghost use Rattle.readouts.specs.Outcome.{refusal, read_answer, read_book, names_read};
 ghost use Rattle.readouts.specs.Is.{Is};
+ghost use Rattle.texts.specs.Faults.{number};
 ghost use Rattle.texts.specs.Finished.{Came, Named, Finished, KeptOne, list_bytes, list_size};
 
 use crate::places::formula_place;
@@ -18,6 +19,9 @@ use symbols::NameStore;
 
 pub mod places; // where a formula stands
 
+// The code of a text that is read (document 02, C-13).
+const READ: u8 = 0;
+
 fn refusal(code: u8, place: usize) -> ReadText
     requires { place ≤ 65536 }
     ensures { result ≡ refusal code place }
@@ -28,6 +32,36 @@ fn refusal(code: u8, place: usize) -> ReadText
         book: 0,
         names: 0,
     }
+}
+
+// Why a text is refused that the reader did not refuse.
+#[derive(Clone, Copy)]
+enum Fault {
+    Text, // the text is too long
+    Book, // the finished book is too long
+    Arities, // a predicate has two arities
+    Room, // an area is too small
+}
+
+// The number of a fault in the table of codes (document 02, C-13).
+impl From<Fault> for u8 {
+    ghost from_gives = { λ fault n. n ≡ number fault };
+
+    fn from(fault: Fault) -> u8 {
+        match fault {
+            Fault::Text => 40,
+            Fault::Book => 5,
+            Fault::Arities => 7,
+            Fault::Room => 43,
+        }
+    }
+}
+
+fn refused(fault: Fault, place: usize) -> ReadText
+    requires { place ≤ 65536 }
+    ensures { result ≡ refusal (number fault) place }
+{
+    refusal(u8::from(fault), place)
 }
 
 fn list_size(lens: &[u8], b: Draft) -> usize
@@ -80,15 +114,15 @@ fn give(
 {
     let size = list_size(lens, b);
     if book.len() < image.len() {
-        return refusal(43, 0);
+        return refused(Fault::Room, 0);
     }
     if names.len() < size {
-        return refusal(43, 0);
+        return refused(Fault::Room, 0);
     }
     put_bytes(book, image, 0, image.len());
     put_list(names, text, starts, lens, b);
     ReadText {
-        code: 0,
+        code: READ,
         place: 0,
         book: image.len() as u32,
         names: size as u32,
@@ -110,7 +144,7 @@ fn judge(
 {
     match find_arities(image) {
         None => give(text, book, names, starts, lens, image, b),
-        Some(k) => refusal(7, formula_place(text, k)),
+        Some(k) => refused(Fault::Arities, formula_place(text, k)),
     }
 }
 
@@ -127,7 +161,7 @@ fn finish(
     ensures { Is text.now book.old names.old result book.new names.new }
 {
     if 32769 < b.from {
-        return refusal(5, text.len());
+        return refused(Fault::Book, text.len());
     }
     let end = b.from - 2;
     out[end] = 7;
@@ -184,7 +218,7 @@ pub fn read_text(text: &[u8], book: &mut [u8], names: &mut [u8]) -> ReadText
     ensures names { names.new ≡ names_read text.now book.old names.old }
 {
     if 65536 < text.len() {
-        return refusal(40, 0);
+        return refused(Fault::Text, 0);
     }
     read_short(text, book, names)
 }

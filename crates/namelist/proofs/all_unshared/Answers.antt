@@ -1,4 +1,4 @@
-use Rattle.namelist.proofs.Walking.{sweeping-begins, sweeping, sweeping-said}
+use Rattle.namelist.proofs.Finding.{sweeping-begins, sweeping, sweeping-said}
 use Rattle.namelist.proofs.all_unshared.Goals as goal
 
 pub loop-at-init : goal.loop-at-init

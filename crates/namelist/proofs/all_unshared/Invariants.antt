@@ -1,6 +1,6 @@
 use Prim.Native.Nat.{◌-◌}
 use lib.ListN.{length}
-use Rattle.namelist.proofs.Walking.{Sweeping}
+use Rattle.namelist.proofs.Finding.{Sweeping}
 use Rattle.namelist.proofs.all_unshared.Given as goal
 
 abbrev pub invariant-loop-at : goal.invariant-loop-at

@@ -1,4 +1,4 @@
-use Rattle.namelist.proofs.Walking.{finding, finding_hit, finding-end}
+use Rattle.namelist.proofs.Finding.{finding, finding_hit, finding-end}
 use Rattle.namelist.proofs.find.Goals as goal
 
 pub loop-at-init : goal.loop-at-init

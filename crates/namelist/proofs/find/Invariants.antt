@@ -1,6 +1,6 @@
 use Prim.Native.Nat.{◌-◌}
 use lib.ListN.{length}
-use Rattle.namelist.proofs.Walking.{Finding}
+use Rattle.namelist.proofs.Finding.{Finding}
 use Rattle.namelist.proofs.find.Given as goal
 
 abbrev pub invariant-loop-at : goal.invariant-loop-at

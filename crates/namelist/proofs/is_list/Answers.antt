@@ -1,5 +1,5 @@
 use native.Mathlib.Omega.{arith}
-use Rattle.namelist.proofs.Walking.{list-made, list-none, list-said}
+use Rattle.namelist.proofs.Finding.{list-made, list-none, list-said}
 use Rattle.namelist.proofs.is_list.Goals as goal
 
 pub returns-then-not-entries_good : goal.returns-then-not-entries_good

@@ -3,7 +3,7 @@ use borrow.Author.Rules.{rules}
 use Rattle.texts.proofs.finish.Goals as goal
 
 pub returns-then-b-gt32769 : goal.returns-then-b-gt32769
-returns-then-b-gt32769 c = long-is _ _ _ _ c.requires _ _ _ c.if-b-gt32769.true c.refusal.ensures
+returns-then-b-gt32769 c = long-is _ _ _ _ c.requires _ _ _ c.if-b-gt32769.true c.refused.ensures
 
 pub overflow_sub-end : goal.overflow_sub-end
 overflow_sub-end c = let z = end-start _ _ _ _ c.requires c.if-b-gt32769.false in search rules

@@ -4,10 +4,10 @@ use Rattle.texts.proofs.Finishing.{no-room-book, no-room-names, given, image-low
 use Rattle.texts.proofs.give.Goals as goal
 
 pub returns-then-book-image : goal.returns-then-book-image
-returns-then-book-image c = no-room-book _ _ _ _ _ _ _ c.requires _ c.list_size-size.ensures.0 _ c.if-book-image.true c.refusal.ensures
+returns-then-book-image c = no-room-book _ _ _ _ _ _ _ c.requires _ c.list_size-size.ensures.0 _ c.if-book-image.true c.refused.ensures
 
 pub returns-then-names-size : goal.returns-then-names-size
-returns-then-names-size c = no-room-names _ _ _ _ _ _ _ c.requires _ c.list_size-size.ensures.0 _ c.if-names-size.true c.refusal-then-names-size.ensures
+returns-then-names-size c = no-room-names _ _ _ _ _ _ _ c.requires _ c.list_size-size.ensures.0 _ c.if-names-size.true c.refused-then-names-size.ensures
 
 pub put_list-requires : goal.put_list-requires
 put_list-requires c =

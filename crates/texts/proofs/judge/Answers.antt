@@ -8,4 +8,4 @@ pub give-requires : goal.give-requires
 give-requires c = finished-one _ _ _ _ _ c.requires _ c.find_arities.ensures c.in-None.is
 
 pub returns-in-Some : goal.returns-in-Some
-returns-in-Some c = finished-two _ _ _ _ _ c.requires _ _ _ _ _ _ c.find_arities.ensures c.in-Some.is c.formula_place.ensures.0 c.refusal.ensures
+returns-in-Some c = finished-two _ _ _ _ _ c.requires _ _ _ _ _ _ c.find_arities.ensures c.in-Some.is c.formula_place.ensures.0 c.refused.ensures

@@ -1,8 +1,5 @@
-use Rattle.pen.proofs.Stacks.{stacking}
+use Rattle.pen.proofs.Stacks.{comma-here}
 use Rattle.pen.proofs.brackets.put_comma.Goals as goal
 
 pub returns-then-top-stack : goal.returns-then-top-stack
-returns-then-top-stack c = search stacking
-
-pub returns : goal.returns
-returns c = search stacking
+returns-then-top-stack c = search comma-here

@@ -1,9 +1,6 @@
 use Rattle.printer.proofs.Walks.{sweeping, sweeping-said}
 use Rattle.printer.proofs.naming.all_named.Goals as goal
 
-pub loop-i-init : goal.loop-i-init
-loop-i-init c = search sweeping
-
 pub record_at-item-requires : goal.record_at-item-requires
 record_at-item-requires c = search sweeping
 
