@@ -2,11 +2,9 @@
 // read, run and printed by them.
 #![tactic(auto)]
 
-ghost use Rattle.std.specs.Prelude.{◌≤◌, length};
-
 mod circle;
-mod goals;
-mod lent_areas;
+mod given;
+mod names;
 mod nearest;
 mod out;
 mod refusal;
@@ -15,198 +13,91 @@ mod text;
 mod typed_words;
 mod values;
 
-use crate::lent_areas::{
-    book_area, goal_area, large_area, list_area, names_area, text_area, word_area,
-};
-use crate::out::say;
-use crate::refusal::refused;
-use crate::telling::{Wanted, answer};
-use crate::text::part;
-use crate::typed_words::{Words, word};
-use printer::print_book;
-use queries::read_query;
+use crate::given::{LONGEST_TEXT, Question, Rules};
+use crate::telling::Wanted;
+use crate::typed_words::Command;
+use std::alloc::{AllocError, Global};
 use std::fs::File;
 use std::io;
-use std::io::{IsTerminal, Read};
-use texts::read_text;
+use std::io::{BufRead, IsTerminal, Read};
 
-fn ask(
-    rt: &impl Print,
-    typed: &[u8],
-    book: &[u8],
-    names: &[u8],
-    rules: &[u8],
-    w: Wanted,
-) -> io::Result<()> {
-    let mut query = goal_area();
-    let mut list = list_area();
-    let r = read_query(typed, book, names, &mut query, &mut list);
-    if r.code != 0 {
-        return refused(rt, false, typed, r.code, r.place as usize);
+fn ask(rt: &HostRuntime, rules: &Rules, typed: &[u8], wanted: Wanted) -> io::Result<()> {
+    match Question::read(rt.alloc(), rules, typed) {
+        Ok(question) => question.answer(rt, wanted),
+        Err(fault) => fault.say(rt),
     }
-    answer(
-        rt,
-        typed,
-        book,
-        part(&query, 0, r.query as usize),
-        part(&list, 0, r.names as usize),
-        names,
-        rules,
-        w,
-    )
 }
 
 // A line of standard input, and whether the input ended with it.
-#[derive(Clone, Copy)]
+#[derive(Drop)]
 struct Line {
-    length: usize,
-    last: bool,
+    text: Vec<u8>,
+    is_last: bool,
 }
 
-fn read_line(input: &mut impl Read, line: &mut [u8]) -> Line {
-    let mut n = 0;
-    while n < line.len() {
-        let mut one = [0u8; 1];
-        if read_full(input, &mut one) == 0 {
-            return Line {
-                length: n,
-                last: true,
-            };
+// A line that is longer than a text may be goes on in the next. A read that fails ends the input; no memory is asked for while it is read.
+fn read_line(alloc: Global, input: &mut impl BufRead) -> Result<Line, AllocError> {
+    let mut text = Vec::with_capacity(alloc, LONGEST_TEXT)?;
+    let _ = input.take(LONGEST_TEXT as u64).read_until(b'\n', &mut text);
+    let is_whole = text.last() == Some(&b'\n');
+    if is_whole {
+        text.pop();
+    }
+    let is_last = !is_whole && text.len() < LONGEST_TEXT;
+    Ok(Line { text, is_last })
+}
+
+fn ask_lines(rt: &HostRuntime, rules: &Rules, wanted: Wanted) -> io::Result<()> {
+    let mut input = rt.reader();
+    for _ in 0..u32::MAX {
+        if rt.stdin().is_terminal() {
+            print!(rt; "?- ")?;
         }
-        if one[0] == b'\n' {
-            return Line {
-                length: n,
-                last: false,
-            };
+        let line = read_line(rt.alloc(), &mut input)?;
+        if !line.text.is_empty() {
+            ask(rt, rules, &line.text, wanted)?;
         }
-        line[n] = one[0];
-        n += 1;
-    }
-    Line {
-        length: n,
-        last: false,
-    }
-}
-
-fn prompt(rt: &HostRuntime) -> io::Result<()> {
-    if rt.stdin().is_terminal() {
-        say(rt, b"?- ")?;
-    }
-    Ok(())
-}
-
-// A line asked, if there is anything on it; and whether another may follow.
-fn ask_line(
-    rt: &HostRuntime,
-    book: &[u8],
-    names: &[u8],
-    rules: &[u8],
-    w: Wanted,
-) -> io::Result<bool> {
-    let mut line = large_area();
-    prompt(rt)?;
-    let read = read_line(&mut rt.stdin(), &mut line);
-    if 0 < read.length {
-        ask(rt, part(&line, 0, read.length), book, names, rules, w)?;
-    }
-    Ok(!read.last)
-}
-
-fn ask_lines(
-    rt: &HostRuntime,
-    book: &[u8],
-    names: &[u8],
-    rules: &[u8],
-    w: Wanted,
-) -> io::Result<()> {
-    for turn in 0..4294967295u32 {
-        if !ask_line(rt, book, names, rules, w)? {
-            return Ok(());
+        if line.is_last {
+            break;
         }
     }
     Ok(())
 }
 
-fn ask_word(
-    rt: &HostRuntime,
-    at: usize,
-    book: &[u8],
-    names: &[u8],
-    rules: &[u8],
-    w: Wanted,
-) -> io::Result<()> {
-    let mut typed = names_area();
-    let n = word(rt, at, &mut typed);
-    ask(rt, part(&typed, 0, n), book, names, rules, w)
+// As much of a file as a text may have, and a byte more, so that a longer one is seen to be; nothing where it can't be opened. The library opens only paths that are UTF-8.
+// A read that fails ends the text; no memory is asked for while it is read.
+fn read_file(rt: &HostRuntime, path: &[u8]) -> Result<Option<Vec<u8>>, AllocError> {
+    let mut text = Vec::with_capacity(rt.alloc(), LONGEST_TEXT + 1)?;
+    let Ok(name) = str::from_utf8(path) else {
+        return Ok(None);
+    };
+    let Ok(file) = File::open(rt, name) else {
+        return Ok(None);
+    };
+    let _ = file.take(LONGEST_TEXT as u64 + 1).read_to_end(&mut text);
+    Ok(Some(text))
 }
 
-// The rules are printed once, for the clauses that are shown.
-fn with_book(rt: &HostRuntime, book: &[u8], names: &[u8], w: Words) -> io::Result<()> {
-    let mut printed = large_area();
-    let p = print_book(book, names, &mut printed);
-    let rules = part(&printed, 0, p.bytes);
-    let wanted = w.wanted;
-    if w.query == 0 {
-        return ask_lines(rt, book, names, rules, wanted);
-    }
-    ask_word(rt, w.query, book, names, rules, wanted)
-}
-
-fn with_rules(rt: &HostRuntime, typed: &[u8], w: Words) -> io::Result<()> {
-    let mut book = book_area();
-    let mut names = names_area();
-    let r = read_text(typed, &mut book, &mut names);
-    if r.code != 0 {
-        return refused(rt, true, typed, r.code, r.place as usize);
-    }
-    with_book(
-        rt,
-        part(&book, 0, r.book as usize),
-        part(&names, 0, r.names as usize),
-        w,
-    )
-}
-
-// Reads until the buffer is full, the input ends or a read fails, and says how many bytes are in it then.
-fn read_full(input: &mut impl Read, buffer: &mut [u8]) -> usize
-    ensures { result ≤ length buffer.new }
-{
-    let mut done = 0;
-    while done < buffer.len() {
-        match input.read(&mut buffer[done..]) {
-            Ok(0) => break,
-            Ok(n) => done += n,
-            Err(_) => break,
-        }
-    }
-    done
-}
-
-// As much of a file as there is room for; nothing where it can't be opened. The library opens only paths that are UTF-8.
-fn read_file(rt: &HostRuntime, path: &[u8], area: &mut [u8]) -> Option<usize> {
-    let name = str::from_utf8(path).ok()?;
-    let mut file = File::open(rt, name).ok()?;
-    Some(read_full(&mut file, area))
-}
-
-fn with_file(rt: &HostRuntime, path: &[u8], w: Words) -> io::Result<()> {
-    let mut typed = text_area();
-    match read_file(rt, path, &mut typed) {
-        None => {
-            say(rt, b"there is no file ")?;
-            say(rt, path)?;
-            say(rt, b" to read rules from\n")
-        }
-        Some(n) => with_rules(rt, part(&typed, 0, n), w),
+fn run(rt: &HostRuntime, command: Command<'_>) -> io::Result<()> {
+    let Some(text) = read_file(rt, command.rules)? else {
+        print!(rt; "there is no file ")?;
+        rt.write_all(command.rules)?;
+        return println!(rt; " to read rules from");
+    };
+    let rules = match Rules::read(rt.alloc(), &text) {
+        Ok(rules) => rules,
+        Err(fault) => return fault.say(rt),
+    };
+    match command.query {
+        Some(query) => ask(rt, &rules, query, command.wanted),
+        None => ask_lines(rt, &rules, command.wanted),
     }
 }
 
 fn main(rt: HostRuntime) -> io::Result<()> {
-    let w = typed_words::read(&rt);
-    if !typed_words::complete(&rt, w)? {
-        return Ok(());
+    let words = typed_words::typed(&rt)?;
+    match Command::read(&words) {
+        Ok(command) => run(&rt, command),
+        Err(unclear) => print!(rt; "{unclear}"),
     }
-    let mut path = word_area();
-    let n = word(&rt, w.rules, &mut path);
-    with_file(&rt, part(&path, 0, n), w)
 }

@@ -1,24 +1,28 @@
-// What is printed.
-use std::io;
-
-pub(crate) fn say(rt: &impl Print, words: &[u8]) -> io::Result<()> {
-    rt.write_all(words)
-}
-
-pub(crate) fn number(rt: &impl Print, n: u32) -> io::Result<()> {
-    rt.print(n)
-}
+// What is printed by a form of its own.
+use std::fmt;
 
 // `1 step`, `2 steps`
-pub(crate) fn steps(rt: &impl Print, n: u32) -> io::Result<()> {
-    number(rt, n)?;
-    if n == 1 {
-        return say(rt, b" step");
+#[derive(Clone, Copy)]
+pub(crate) struct Steps(pub(crate) u32);
+
+impl fmt::Display for Steps {
+    fn fmt<W: fmt::Write>(&self, f: &mut fmt::Formatter<W>) -> fmt::Result {
+        match self.0 {
+            1 => f.write_str("1 step"),
+            n => write!(f, "{n} steps"),
+        }
     }
-    say(rt, b" steps")
 }
 
-// A byte in hexadecimal.
-pub(crate) fn two_digits(rt: &impl Print, b: u8) -> io::Result<()> {
-    print!(rt; "{b:02x}")
+// Bytes in hexadecimal.
+#[derive(Clone, Copy)]
+pub(crate) struct Hex<'a>(pub(crate) &'a [u8]);
+
+impl fmt::Display for Hex<'_> {
+    fn fmt<W: fmt::Write>(&self, f: &mut fmt::Formatter<W>) -> fmt::Result {
+        for byte in self.0 {
+            write!(f, "{byte:02x}")?;
+        }
+        Ok(())
+    }
 }

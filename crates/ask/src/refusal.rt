@@ -1,168 +1,188 @@
 // Rules or a query that are refused: where, the line itself with a mark under the place, and what was expected.
-use crate::out::{number, say};
-use crate::text::{byte, depth_before, in_word, line_start, lines_before, next_of, part};
-use std::io;
+use crate::text::{in_word, last_line, open_brackets, split_line};
+use std::alloc::AllocError;
+use std::{fmt, io};
 
-// Blanks, or a tab where the line has one, up to the mark.
-fn mark(rt: &impl Print, line: &[u8], column: usize) -> io::Result<()> {
-    let mut at = 0;
-    while at < column {
-        if byte(line, at) == b'\t' {
-            say(rt, b"\t")?;
-        } else {
-            say(rt, b" ")?;
+// What a text was to be read as.
+#[derive(Clone, Copy, PartialEq, Eq)]
+pub(crate) enum Kind {
+    Rules,
+    Query,
+}
+
+impl fmt::Display for Kind {
+    fn fmt<W: fmt::Write>(&self, f: &mut fmt::Formatter<W>) -> fmt::Result {
+        f.write_str(match self {
+            Kind::Rules => "rules",
+            Kind::Query => "query",
+        })
+    }
+}
+
+// Why a text is not read: the codes of document 02, C-13.
+#[derive(Clone, Copy, PartialEq, Eq)]
+pub(crate) enum Reason {
+    RuleParts,
+    RulesSize,
+    RuleArity,
+    QueryParts,
+    QuerySize,
+    QueryArity,
+    TextLength,
+    Unexpected,
+    NameLength,
+    NoRoom,
+}
+
+impl From<u8> for Reason {
+    fn from(code: u8) -> Reason {
+        match code {
+            4 => Reason::RuleParts,
+            5 => Reason::RulesSize,
+            7 => Reason::RuleArity,
+            14 => Reason::QueryParts,
+            15 => Reason::QuerySize,
+            17 => Reason::QueryArity,
+            40 => Reason::TextLength,
+            41 => Reason::Unexpected,
+            42 => Reason::NameLength,
+            _ => Reason::NoRoom,
         }
-        at += 1;
     }
-    say(rt, b"^\n")
 }
 
-fn show_line(rt: &impl Print, text: &[u8], place: usize) -> io::Result<()> {
-    let start = line_start(text, place);
-    let end = next_of(text, start, b'\n');
-    let line = part(text, start, end);
-    say(rt, line)?;
-    say(rt, b"\n")?;
-    if start <= place {
-        mark(rt, line, place - start)?;
+impl fmt::Display for Reason {
+    fn fmt<W: fmt::Write>(&self, f: &mut fmt::Formatter<W>) -> fmt::Result {
+        f.write_str(match self {
+            Reason::RuleParts => {
+                "one too many: a formula or term has at most 8 arguments, a rule at most 16 formulas behind `:-`"
+            }
+            Reason::RulesSize => {
+                "too large: at most 512 rules and 32,768 bytes, a rule at most 256 names and variables, 64 of them different variables"
+            }
+            Reason::RuleArity => "this predicate was used before with another number of arguments",
+            Reason::QueryParts => {
+                "one too many: a formula or term has at most 8 arguments, a query at most 512 formulas"
+            }
+            Reason::QuerySize => "too large: a query has at most 4,096 names and variables",
+            Reason::QueryArity => {
+                "this predicate has another number of arguments in the rules, or before in the query"
+            }
+            Reason::TextLength => "too long: a text has at most 65,536 bytes",
+            Reason::Unexpected => "unexpected here",
+            Reason::NameLength => "a name has at most 32 bytes",
+            Reason::NoRoom => "no room for what was read",
+        })
     }
-    Ok(())
 }
 
-fn column(text: &[u8], place: usize) -> u32 {
-    let start = line_start(text, place);
-    if start <= place {
-        let column = place - start;
-        if column < 65537 {
-            return column as u32 + 1;
+impl Reason {
+    fn has_place(self) -> bool {
+        !matches!(self, Reason::TextLength | Reason::NoRoom)
+    }
+}
+
+// A text that is not read, and from where on.
+#[derive(Clone, Copy)]
+pub(crate) struct Refusal<'a> {
+    pub(crate) kind: Kind,
+    pub(crate) text: &'a [u8],
+    pub(crate) reason: Reason,
+    pub(crate) place: usize,
+}
+
+impl Refusal<'_> {
+    pub(crate) fn say(&self, rt: &impl Print) -> io::Result<()> {
+        let Refusal {
+            kind,
+            text,
+            reason,
+            place,
+        } = *self;
+        if !reason.has_place() {
+            return println!(rt; "{kind}: {reason}");
         }
-    }
-    1
-}
-
-// The last byte before a place that is no blank.
-fn before(text: &[u8], place: usize) -> u8 {
-    let mut last: u8 = 0;
-    let mut at = 0;
-    while at < text.len() {
-        if place <= at {
-            return last;
+        let (before, _) = text.split_at(text.len().min(place));
+        let front = last_line(before);
+        let line = before.iter().filter(|b| **b == b'\n').count();
+        println!(rt;
+            "{kind}, line {}, column {}: {reason}",
+            line.wrapping_add(1),
+            front.len().wrapping_add(1)
+        )?;
+        show_line(rt, text, before.len().saturating_sub(front.len()), front)?;
+        if reason == Reason::Unexpected {
+            println!(rt; "{}", Expected { kind, before })?;
         }
-        if b' ' < text[at] {
-            last = text[at];
-        }
-        at += 1;
+        Ok(())
     }
-    last
 }
 
-// Behind a formula: in a query no `:-`, and the full stop may be left out.
-fn behind_formula(rt: &impl Print, rules: bool) -> io::Result<()> {
-    if rules {
-        return say(rt, b"expected `:-`, a comma or a full stop");
+// A line, and a mark behind its front: under that blanks, or a tab where the line has one.
+fn show_line(rt: &impl Print, text: &[u8], start: usize, front: &[u8]) -> io::Result<()> {
+    let behind = text.get(start..).unwrap_or(front);
+    rt.write_all(split_line(behind).0)?;
+    println!(rt)?;
+    for b in front {
+        print!(rt; "{}", if *b == b'\t' { '\t' } else { ' ' })?;
     }
-    say(rt, b"expected a comma or the query's end")
-}
-
-fn behind_term(rt: &impl Print, rules: bool, depth: u32) -> io::Result<()> {
-    if depth == 0 {
-        return behind_formula(rt, rules);
-    }
-    say(rt, b"expected a comma or a closing bracket")
+    println!(rt; "^")
 }
 
 // What the grammar lets follow, as far as the last byte and the open brackets tell.
-fn expected(rt: &impl Print, rules: bool, text: &[u8], place: usize) -> io::Result<()> {
-    let last = before(text, place);
-    let depth = depth_before(text, place);
-    if in_word(last) {
-        behind_term(rt, rules, depth)?;
-        return say(rt, b" or, straight behind a name, an opening bracket\n");
-    }
-    if last == b')' {
-        behind_term(rt, rules, depth)?;
-        return say(rt, b"\n");
-    }
-    if 0 < depth {
-        return say(rt, b"expected a name or a variable\n");
-    }
-    if !rules && last == b'.' {
-        return say(rt, b"expected nothing behind the full stop\n");
-    }
-    say(rt, b"expected a name that begins with a small letter\n")
+#[derive(Clone, Copy)]
+struct Expected<'a> {
+    kind: Kind,
+    before: &'a [u8],
 }
 
-fn reason(rt: &impl Print, code: u8) -> io::Result<()> {
-    match code {
-        4 => say(
-            rt,
-            b"one too many: a formula or term has at most 8 arguments, a rule at most 16 formulas behind `:-`\n",
-        ),
-        5 => say(
-            rt,
-            b"too large: at most 512 rules and 32,768 bytes, a rule at most 256 names and variables, 64 of them different variables\n",
-        ),
-        7 => say(
-            rt,
-            b"this predicate was used before with another number of arguments\n",
-        ),
-        14 => say(
-            rt,
-            b"one too many: a formula or term has at most 8 arguments, a query at most 512 formulas\n",
-        ),
-        15 => say(
-            rt,
-            b"too large: a query has at most 4,096 names and variables\n",
-        ),
-        17 => say(
-            rt,
-            b"this predicate has another number of arguments in the rules, or before in the query\n",
-        ),
-        40 => say(rt, b"too long: a text has at most 65,536 bytes\n"),
-        41 => say(rt, b"unexpected here\n"),
-        42 => say(rt, b"a name has at most 32 bytes\n"),
-        _ => say(rt, b"no room for what was read\n"),
+impl Expected<'_> {
+    // Behind a formula of a query stands no `:-`, and the full stop may be left out.
+    fn behind_term(&self) -> &'static str {
+        match self.kind {
+            _ if 0 < open_brackets(self.before) => "a comma or a closing bracket",
+            Kind::Rules => "`:-`, a comma or a full stop",
+            Kind::Query => "a comma or the query's end",
+        }
     }
 }
 
-// Codes that have no place.
-fn placeless(code: u8) -> bool {
-    match code {
-        40 => true,
-        43 => true,
-        45 => true,
-        _ => false,
+impl fmt::Display for Expected<'_> {
+    fn fmt<W: fmt::Write>(&self, f: &mut fmt::Formatter<W>) -> fmt::Result {
+        f.write_str("expected ")?;
+        match self.before.iter().rev().find(|b| b' ' < **b) {
+            Some(b) if in_word(*b) => write!(
+                f,
+                "{} or, straight behind a name, an opening bracket",
+                self.behind_term()
+            ),
+            Some(b')') => f.write_str(self.behind_term()),
+            _ if 0 < open_brackets(self.before) => f.write_str("a name or a variable"),
+            Some(b'.') if self.kind == Kind::Query => f.write_str("nothing behind the full stop"),
+            _ => f.write_str("a name that begins with a small letter"),
+        }
     }
 }
 
-fn what(rt: &impl Print, rules: bool) -> io::Result<()> {
-    if rules {
-        return say(rt, b"rules");
-    }
-    say(rt, b"query")
+// Why there is no answer.
+#[derive(Drop)]
+pub(crate) enum Fault<'a> {
+    Refused(Refusal<'a>),
+    Failed(io::Error),
 }
 
-pub(crate) fn refused(
-    rt: &impl Print,
-    rules: bool,
-    text: &[u8],
-    code: u8,
-    place: usize,
-) -> io::Result<()> {
-    what(rt, rules)?;
-    if placeless(code) {
-        say(rt, b": ")?;
-        return reason(rt, code);
+impl From<AllocError> for Fault<'_> {
+    fn from(e: AllocError) -> Self {
+        Fault::Failed(io::Error::from(e))
     }
-    say(rt, b", line ")?;
-    number(rt, lines_before(text, place).wrapping_add(1))?;
-    say(rt, b", column ")?;
-    number(rt, column(text, place))?;
-    say(rt, b": ")?;
-    reason(rt, code)?;
-    show_line(rt, text, place)?;
-    if code == 41 {
-        expected(rt, rules, text, place)?;
+}
+
+impl Fault<'_> {
+    // A refusal is told to whoever typed the text, and is no failure of the program.
+    pub(crate) fn say(self, rt: &impl Print) -> io::Result<()> {
+        match self {
+            Fault::Refused(refusal) => refusal.say(rt),
+            Fault::Failed(e) => Err(e),
+        }
     }
-    Ok(())
 }

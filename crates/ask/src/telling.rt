@@ -1,13 +1,11 @@
 // What a run answers, in words.
-use crate::circle::{Circle, say_circle};
-use crate::goals::{say_leftmost, say_rule, say_unknown};
-use crate::lent_areas::{goal_area, large_area};
-use crate::out::{number, say, steps, two_digits};
-use crate::text::part;
-use crate::values::values;
+use crate::circle::Circle;
+use crate::given::{Question, Run};
+use crate::nearest::say_nearest;
+use crate::out::{Hex, Steps};
+use crate::text::arguments;
+use crate::values::say_values;
 use outcomes::Answer;
-use printer::print_goal;
-use running::run;
 use std::io;
 
 // What the words on the command line ask for.
@@ -18,152 +16,124 @@ pub(crate) struct Wanted {
     pub(crate) dot: bool,
 }
 
-// The query's variables, each with what the answer has in its place.
-fn found(
-    rt: &impl Print,
-    typed: &[u8],
-    book: &[u8],
-    query: &[u8],
-    answer: &[u8],
-    names: &[u8],
-) -> io::Result<()> {
-    let mut asked = large_area();
-    let mut told = large_area();
-    let a = print_goal(book, query, names, &mut asked);
-    let b = print_goal(book, answer, names, &mut told);
-    values(rt, typed, part(&asked, 0, a.bytes), part(&told, 0, b.bytes))
+// How a run ends: the codes of document 01.
+#[derive(Clone, Copy, PartialEq, Eq)]
+enum End {
+    Solved,
+    Circle,
+    Stuck,
+    Spent,
+    NoRoom,
+    NoRoomForAnswer,
+    NoRule,
 }
 
-fn solved(rt: &impl Print, n: u32) -> io::Result<()> {
-    say(rt, b"solved in ")?;
-    steps(rt, n)?;
-    say(rt, b"\n")
-}
-
-fn stuck(
-    rt: &impl Print,
-    book: &[u8],
-    goal: &[u8],
-    names: &[u8],
-    rules: &[u8],
-    a: Answer,
-) -> io::Result<()> {
-    say(rt, b"stuck after ")?;
-    steps(rt, a.steps)?;
-    say(rt, b" at ")?;
-    say_leftmost(rt, book, goal, names)?;
-    say(rt, b"\nfurthest: ")?;
-    say_rule(rt, rules, a.furthest)?;
-    say(rt, b"\nwhich fails at argument ")?;
-    number(rt, a.argument)?;
-    say(rt, b"\n")
-}
-
-fn ended(rt: &impl Print, book: &[u8], goal: &[u8], names: &[u8], n: u32) -> io::Result<()> {
-    say(rt, b" after ")?;
-    steps(rt, n)?;
-    say(rt, b" at ")?;
-    say_leftmost(rt, book, goal, names)?;
-    say(rt, b"\n")
-}
-
-fn spent(rt: &impl Print, book: &[u8], goal: &[u8], names: &[u8], n: u32) -> io::Result<()> {
-    say(rt, b"steps used up")?;
-    ended(rt, book, goal, names, n)?;
-    say(rt, b"a larger number behind --budget allows more\n")
-}
-
-fn full(rt: &impl Print, book: &[u8], goal: &[u8], names: &[u8], n: u32) -> io::Result<()> {
-    say(rt, b"no room")?;
-    ended(rt, book, goal, names, n)?;
-    say(
-        rt,
-        b"the next goal has over 512 formulas or 4,096 names and variables; the handset holds no more, so the rules have to make smaller goals\n",
-    )
-}
-
-fn over(rt: &impl Print, book: &[u8], goal: &[u8], names: &[u8], n: u32) -> io::Result<()> {
-    say(rt, b"no room for the answer")?;
-    ended(rt, book, goal, names, n)?;
-    say(
-        rt,
-        b"the next answer has over 4,096 names and variables; the handset holds no more, so the query has to ask for less\n",
-    )
-}
-
-fn hex(rt: &impl Print, bytes: &[u8]) -> io::Result<()> {
-    let mut at = 0;
-    while at < bytes.len() {
-        two_digits(rt, bytes[at])?;
-        at += 1;
-    }
-    say(rt, b"\n")
-}
-
-fn after_blank(rt: &impl Print, n: u32) -> io::Result<()> {
-    say(rt, b" ")?;
-    number(rt, n)
-}
-
-// `trace`'s five numbers, and the answer's bytes.
-fn numbers(rt: &impl Print, a: Answer, answer: &[u8]) -> io::Result<()> {
-    number(rt, a.code as u32)?;
-    after_blank(rt, a.place)?;
-    after_blank(rt, a.steps)?;
-    after_blank(rt, a.span)?;
-    after_blank(rt, a.bytes)?;
-    say(rt, b" ")?;
-    hex(rt, answer)
-}
-
-fn less(a: u32, b: u32) -> u32 {
-    if b <= a {
-        return a - b;
-    }
-    0
-}
-
-// `given` are the names of the rules, `names` those of the query too.
-pub(crate) fn answer(
-    rt: &impl Print,
-    typed: &[u8],
-    book: &[u8],
-    query: &[u8],
-    names: &[u8],
-    given: &[u8],
-    rules: &[u8],
-    w: Wanted,
-) -> io::Result<()> {
-    let mut area = goal_area();
-    let mut space = goal_area();
-    let a = run(book, query, w.budget, &mut area, &mut space);
-    let goal = part(&area, 0, a.bytes as usize);
-    let told = part(&space, 0, a.answer as usize);
-    if w.numbers {
-        return numbers(rt, a, told);
-    }
-    let code = a.code;
-    match code {
-        20 => {
-            found(rt, typed, book, query, told, names)?;
-            solved(rt, a.steps)
+impl From<u8> for End {
+    fn from(code: u8) -> End {
+        match code {
+            20 => End::Solved,
+            21 => End::Circle,
+            22 => End::Stuck,
+            23 => End::Spent,
+            24 => End::NoRoom,
+            27 => End::NoRoomForAnswer,
+            _ => End::NoRule,
         }
-        21 => say_circle(
-            rt,
-            book,
-            query,
-            names,
-            rules,
-            Circle {
-                from: less(a.steps, a.span),
-                span: a.span,
-                dot: w.dot,
-            },
-        ),
-        22 => stuck(rt, book, goal, names, rules, a),
-        23 => spent(rt, book, goal, names, a.steps),
-        24 => full(rt, book, goal, names, a.steps),
-        27 => over(rt, book, goal, names, a.steps),
-        _ => say_unknown(rt, book, goal, names, given),
+    }
+}
+
+impl Run {
+    // `trace`'s five numbers, and the answer's bytes.
+    fn say_numbers(&self, rt: &impl Print) -> io::Result<()> {
+        let Answer {
+            code,
+            place,
+            steps,
+            span,
+            bytes,
+            ..
+        } = self.outcome;
+        println!(rt;
+            "{code} {place} {steps} {span} {bytes} {}",
+            Hex(&self.answer)
+        )
+    }
+
+    fn circle(&self) -> Circle {
+        let Answer { steps, span, .. } = self.outcome;
+        Circle {
+            from: steps.saturating_sub(span),
+            span,
+        }
+    }
+}
+
+impl Question<'_> {
+    pub(crate) fn answer(&self, rt: &HostRuntime, wanted: Wanted) -> io::Result<()> {
+        let run = self.run(rt.alloc(), wanted.budget)?;
+        if wanted.numbers {
+            return run.say_numbers(rt);
+        }
+        match End::from(run.outcome.code) {
+            End::Solved => self.say_solved(rt, &run),
+            End::Circle if wanted.dot => run.circle().draw(rt, self),
+            End::Circle => run.circle().say(rt, self),
+            End::Stuck => self.say_stuck(rt, &run),
+            End::Spent => self.say_end(
+                rt,
+                &run,
+                "steps used up",
+                "a larger number behind --budget allows more",
+            ),
+            End::NoRoom => self.say_end(
+                rt,
+                &run,
+                "no room",
+                "the next goal has over 512 formulas or 4,096 names and variables; the handset holds no more, so the rules have to make smaller goals",
+            ),
+            End::NoRoomForAnswer => self.say_end(
+                rt,
+                &run,
+                "no room for the answer",
+                "the next answer has over 4,096 names and variables; the handset holds no more, so the query has to ask for less",
+            ),
+            End::NoRule => self.say_unknown(rt, &run),
+        }
+    }
+
+    // The query's variables, each with what the answer has in its place.
+    fn say_solved(&self, rt: &HostRuntime, run: &Run) -> io::Result<()> {
+        let asked = self.asked(rt.alloc())?;
+        let answer = self.goal_text(rt.alloc(), &run.answer)?;
+        say_values(rt, self.typed, &asked, &answer)?;
+        println!(rt; "solved in {}", Steps(run.outcome.steps))
+    }
+
+    fn say_stuck(&self, rt: &HostRuntime, run: &Run) -> io::Result<()> {
+        let leftmost = self.leftmost(rt.alloc(), &run.goal)?;
+        let Answer {
+            steps,
+            furthest,
+            argument,
+            ..
+        } = run.outcome;
+        println!(rt; "stuck after {} at {leftmost}", Steps(steps))?;
+        println!(rt; "furthest: {}", self.rules.rule(furthest))?;
+        println!(rt; "which fails at argument {argument}")
+    }
+
+    // A run that may go on with more of what ended it.
+    fn say_end(&self, rt: &HostRuntime, run: &Run, what: &str, hint: &str) -> io::Result<()> {
+        let leftmost = self.leftmost(rt.alloc(), &run.goal)?;
+        println!(rt; "{what} after {} at {leftmost}", Steps(run.outcome.steps))?;
+        println!(rt; "{hint}")
+    }
+
+    // A predicate by its name and how many arguments it has, and the names that are nearest to it among those of the rules.
+    fn say_unknown(&self, rt: &HostRuntime, run: &Run) -> io::Result<()> {
+        let leftmost = self.leftmost(rt.alloc(), &run.goal)?;
+        let name = leftmost.split('(').next().unwrap_or("");
+        println!(rt; "no rule for {name}/{}", arguments(leftmost.as_bytes()))?;
+        say_nearest(rt, &self.rules.names, name.as_bytes())
     }
 }
