@@ -19,7 +19,6 @@ use Rattle.drafts.specs.Drafted.{Tables, weight, Drafted, AddsVariable}
 use Rattle.drafts.proofs.Raising.{weight-low, weighs, variable-drafted}
 use Rattle.building.specs.Built.{bumped, Opens, shut, open_at, Built, Argued, Closed}
 use Rattle.building.proofs.Places.{top-raised, open_arity, open_room, open_raised}
-use Rattle.symbols.specs.declared.NameStore.{NameStore}
 
 -- The variables of the nodes are those of the part
 
@@ -48,19 +47,19 @@ raised-seen q u d =
 
 -- How many bytes there are
 
-pub len_most : {text out opens : List ℕ} {store : NameStore} {b : Draft} {T : Tables} {p : Part} {k : ℕ} (n : ℕ) → Built text out opens store b T p k → nodes p ≤ n → b.len ≤ 4 * n
+pub len_most : {text out opens starts lens heads nexts : List ℕ} {b : Draft} {T : Tables} {p : Part} {k : ℕ} (n : ℕ) → Built text out opens starts lens heads nexts b T p k → nodes p ≤ n → b.len ≤ 4 * n
 len_most {p = p} n h l = omega (arith, h.weighed, weight-low (drafts p []), drafts-count p [], l)
 
 -- A variable
 
 module _ (out out₁ out' opens : List ℕ) (b r : Draft) (depth v : ℕ) (p : out₁ ≡ bumped out (b.from + (get_or opens (depth - 1) 0 + 3))) (a : AddsVariable out₁ out' b v r) where
-  variable-built : (text : List ℕ) (store : NameStore) (T : Tables) (q : Part) (u w : List ℕ) (d : Done) → Built text out opens store b T (inside q u d) depth → nodes (inside q u d) ≤ 255 →
-      v ≡ variable_number (variables (inside q u d)) w → Built text out' opens store r T (inside q u (and_variable d w)) depth
-  variable-built text store T q u w d h l e =
-      let e₁ = subst (λ (o : List ℕ). Drafted text o store b T (raise (nodes q) (drafts (inside q u d) []))) (inv p) (top-raised q u d depth h) in
+  variable-built : (text starts lens heads nexts : List ℕ) (T : Tables) (q : Part) (u w : List ℕ) (d : Done) → Built text out opens starts lens heads nexts b T (inside q u d) depth → nodes (inside q u d) ≤ 255 →
+      v ≡ variable_number (variables (inside q u d)) w → Built text out' opens starts lens heads nexts r T (inside q u (and_variable d w)) depth
+  variable-built text starts lens heads nexts T q u w d h l e =
+      let e₁ = subst (λ (o : List ℕ). Drafted text o starts lens heads nexts b T (raise (nodes q) (drafts (inside q u d) []))) (inv p) (top-raised q u d depth h) in
       let n : v ≡ variable_number (variables_after [] (raise (nodes q) (drafts (inside q u d) []))) w = e ∙ ap (λ (s : List (List ℕ)). variable_number s w) (inv (raised-seen q u d)) in
-      let f : Drafted text out' store r T (drafts (inside q u (and_variable d w)) []) =
-      subst (Drafted text out' store r T) (inv (variable-drafts q u w d)) (variable-drafted (raise (nodes q) (drafts (inside q u d) [])) w v e₁ n a) in
+      let f : Drafted text out' starts lens heads nexts r T (drafts (inside q u (and_variable d w)) []) =
+      subst (Drafted text out' starts lens heads nexts r T) (inv (variable-drafts q u w d)) (variable-drafted (raise (nodes q) (drafts (inside q u d) [])) w v e₁ n a) in
       record {
         drafted = f;
         opened = same-opens depth h.opened;
@@ -98,17 +97,17 @@ some_open q u d k (open_at g t) = omega arith
 pub closed-root : (out opens : List ℕ) (b : Draft) (depth : ℕ) → depth < 2 → Closed out out opens b depth
 closed-root out opens b depth l = record { builds = there; kept = λ n k. refl }
   where
-    there : (text : List ℕ) (store : NameStore) (T : Tables) (q : Part) (u : List ℕ) (d : Done) → Built text out opens store b T (inside q u d) depth → nodes (inside q u d) ≤ 256 →
-        filled d ≡ true → Built text out opens store b T (put q u (terms_of d none)) (depth - 1)
-    there text store T (formulas fs) u d h m f =
+    there : (text starts lens heads nexts : List ℕ) (T : Tables) (q : Part) (u : List ℕ) (d : Done) → Built text out opens starts lens heads nexts b T (inside q u d) depth → nodes (inside q u d) ≤ 256 →
+        filled d ≡ true → Built text out opens starts lens heads nexts b T (put q u (terms_of d none)) (depth - 1)
+    there text starts lens heads nexts T (formulas fs) u d h m f =
         let e = closing-formula fs u d in
         record {
-          drafted = subst (Drafted text out store b T) (inv e) h.drafted;
+          drafted = subst (Drafted text out starts lens heads nexts b T) (inv e) h.drafted;
           opened = outer-opens (formulas fs) u u d (terms_of d none) depth h.opened;
           opens_long = h.opens_long;
           weighed = h.weighed ∙ ap weight (inv e);
         }
-    there text store T (inside p x e) u d h m f = absurd (two depth h.opened l)
+    there text starts lens heads nexts T (inside p x e) u d h m f = absurd (two depth h.opened l)
       where
         two : (k : ℕ) → Opens opens (inside (inside p x e) u d) k → k < 2 → ⊥
         two k (open_at (open_at g s) t) l = omega arith
@@ -117,20 +116,20 @@ pub closed-inside : (out out' opens : List ℕ) (b : Draft) (depth : ℕ) → (d
 closed-inside out out' opens b depth l p =
     record { builds = there; kept = λ n k. ap (take n) p ∙ take-set-le n out (b.from + (get_or opens (depth - 2) 0 + 3)) (get_or out (b.from + (get_or opens (depth - 2) 0 + 3)) 0 + 1) (omega (arith, k)) }
   where
-    there : (text : List ℕ) (store : NameStore) (T : Tables) (q : Part) (u : List ℕ) (d : Done) → Built text out opens store b T (inside q u d) depth → nodes (inside q u d) ≤ 256 →
-        filled d ≡ true → Built text out' opens store b T (put q u (terms_of d none)) (depth - 1)
-    there text store T (formulas fs) u d h m f = absurd (l (one depth h.opened))
+    there : (text starts lens heads nexts : List ℕ) (T : Tables) (q : Part) (u : List ℕ) (d : Done) → Built text out opens starts lens heads nexts b T (inside q u d) depth → nodes (inside q u d) ≤ 256 →
+        filled d ≡ true → Built text out' opens starts lens heads nexts b T (put q u (terms_of d none)) (depth - 1)
+    there text starts lens heads nexts T (formulas fs) u d h m f = absurd (l (one depth h.opened))
       where
         one : (k : ℕ) → Opens opens (inside (formulas fs) u d) k → k < 2
         one k (open_at shut t) = omega arith
-    there text store T (inside p₁ x e) u d h m f =
+    there text starts lens heads nexts T (inside p₁ x e) u d h m f =
         let at : b.from + (weight (drafts p₁ []) + 3) ≡ b.from + (get_or opens (depth - 2) 0 + 3) = omega (arith, outer-place p₁ x u e d depth h.opened) in
         let r = open_raised p₁ x (size e) (b.from + (get_or opens (depth - 2) 0 + 3)) _ at h.weighed h.drafted in
         let c : drafts p₁ (symbol_spot (sort_in p₁) x (suc (size e)) ∷ done_spots e (symbol_spot (sort_in (inside p₁ x e)) u (size d) ∷ done_spots d [])) ≡ drafts (put (inside p₁ x e) u (terms_of d none)) [] =
         inv (opened-raised p₁ (sort_in p₁) x (size e) (done_spots e (symbol_spot (sort_in (inside p₁ x e)) u (size d) ∷ done_spots d []))) ∙ inv (closing-argument p₁ x u e d f) in
-        let z : Drafted text out' store b T (drafts (put (inside p₁ x e) u (terms_of d none)) []) =
-        subst (λ (o : List ℕ). Drafted text o store b T (drafts (put (inside p₁ x e) u (terms_of d none)) [])) (inv p)
-        (subst (Drafted text (bumped out (b.from + (get_or opens (depth - 2) 0 + 3))) store b T) c r) in
+        let z : Drafted text out' starts lens heads nexts b T (drafts (put (inside p₁ x e) u (terms_of d none)) []) =
+        subst (λ (o : List ℕ). Drafted text o starts lens heads nexts b T (drafts (put (inside p₁ x e) u (terms_of d none)) [])) (inv p)
+        (subst (Drafted text (bumped out (b.from + (get_or opens (depth - 2) 0 + 3))) starts lens heads nexts b T) c r) in
         record {
           drafted = z;
           opened = outer-opens (inside p₁ x e) u u d (terms_of d none) depth h.opened;
@@ -139,7 +138,7 @@ closed-inside out out' opens b depth l p =
         }
 
 -- what the outer symbol's record has room for
-pub outer-facts : {text out opens : List ℕ} {store : NameStore} {b : Draft} {T : Tables} (p : Part) (k : ℕ) → Built text out opens store b T p k → SmallPart p → nodes p ≤ 256 → (k < 2 → ⊥) →
+pub outer-facts : {text out opens starts lens heads nexts : List ℕ} {b : Draft} {T : Tables} (p : Part) (k : ℕ) → Built text out opens starts lens heads nexts b T p k → SmallPart p → nodes p ≤ 256 → (k < 2 → ⊥) →
     (b.from + (get_or opens (k - 2) 0 + 3) < length out) × (get_or out (b.from + (get_or opens (k - 2) 0 + 3)) 0 < 255)
 outer-facts (formulas fs) k h s l z = absurd (z (none k h.opened))
   where

@@ -20,7 +20,6 @@ use Rattle.drafts.specs.Drafted.{sort_of_kind, Tables, Bracketed, weight, Drafte
 use Rattle.drafts.proofs.Raising.{weight-append, weight-low, weighs, arity-is, raised-drafted}
 use Rattle.building.specs.declared.Work.{Work}
 use Rattle.building.specs.Built.{kind_at, bumped, Opens, shut, open_at, Built, Opened, Alone}
-use Rattle.symbols.specs.declared.NameStore.{NameStore}
 
 pub depth-nodes : {opens : List ℕ} (p : Part) (k : ℕ) → Opens opens p k → k ≤ nodes p
 depth-nodes (formulas fs) k shut = omega arith
@@ -52,13 +51,13 @@ symbol-weight Names.Predicate v n r b = omega arith
 
 -- How many bytes there are
 
-pub len_low : {text out opens : List ℕ} {store : NameStore} {b : Draft} {T : Tables} {p : Part} {k : ℕ} → Built text out opens store b T p k → nodes p ≤ 255 → b.len ≤ 1020
+pub len_low : {text out opens starts lens heads nexts : List ℕ} {b : Draft} {T : Tables} {p : Part} {k : ℕ} → Built text out opens starts lens heads nexts b T p k → nodes p ≤ 255 → b.len ≤ 1020
 len_low {p = p} h l = omega (arith, h.weighed, weight-low (drafts p []), drafts-count p [], l)
 
 -- A symbol that is open has one argument more
 
-module _ {text out : List ℕ} {store : NameStore} {b : Draft} {T : Tables} (q : Part) (u : List ℕ) (n j : ℕ) (r : List Spot) (at : b.from + (weight (drafts q []) + 3) ≡ j)
-    (w : b.len ≡ weight (drafts q (symbol_spot (sort_in q) u n ∷ r))) (d : Drafted text out store b T (drafts q (symbol_spot (sort_in q) u n ∷ r))) where
+module _ {text out starts lens heads nexts : List ℕ} {b : Draft} {T : Tables} (q : Part) (u : List ℕ) (n j : ℕ) (r : List Spot) (at : b.from + (weight (drafts q []) + 3) ≡ j)
+    (w : b.len ≡ weight (drafts q (symbol_spot (sort_in q) u n ∷ r))) (d : Drafted text out starts lens heads nexts b T (drafts q (symbol_spot (sort_in q) u n ∷ r))) where
   split : drafts q (symbol_spot (sort_in q) u n ∷ r) ≡ drafts q [] ++ (symbol_spot (sort_in q) u n ∷ r)
   split = inv (drafts-append q [] (symbol_spot (sort_in q) u n ∷ r))
 
@@ -66,8 +65,8 @@ module _ {text out : List ℕ} {store : NameStore} {b : Draft} {T : Tables} (q :
   within =
       omega (arith, w, ap weight split, weight-append (drafts q []) (symbol_spot (sort_in q) u n ∷ r), symbol-weight (sort_in q) u n r (bracketed-in q))
 
-  there : Drafted text out store b T (drafts q [] ++ (symbol_spot (sort_in q) u n ∷ r))
-  there = subst (Drafted text out store b T) split d
+  there : Drafted text out starts lens heads nexts b T (drafts q [] ++ (symbol_spot (sort_in q) u n ∷ r))
+  there = subst (Drafted text out starts lens heads nexts b T) split d
 
   pub open_arity : get_or out j 0 ≡ n
   open_arity = arity-is (drafts q []) r (sort_in q) u n j (bracketed-in q) at within there
@@ -75,14 +74,14 @@ module _ {text out : List ℕ} {store : NameStore} {b : Draft} {T : Tables} (q :
   pub open_room : b.len ≤ 1031 → j < length out
   open_room l = omega (arith, at, within, d.low, d.long, l)
 
-  pub open_raised : Drafted text (bumped out j) store b T (drafts q (symbol_spot (sort_in q) u (suc n) ∷ r))
+  pub open_raised : Drafted text (bumped out j) starts lens heads nexts b T (drafts q (symbol_spot (sort_in q) u (suc n) ∷ r))
   open_raised =
-      subst (Drafted text (bumped out j) store b T) (drafts-append q [] (symbol_spot (sort_in q) u (suc n) ∷ r))
+      subst (Drafted text (bumped out j) starts lens heads nexts b T) (drafts-append q [] (symbol_spot (sort_in q) u (suc n) ∷ r))
       (raised-drafted (drafts q []) r (sort_in q) u n j (bracketed-in q) at within there (get_or out j 0 + 1) (ap (λ (x : ℕ). x + 1) open_arity))
 
 -- The innermost one
 
-module _ {text out opens : List ℕ} {store : NameStore} {b : Draft} {T : Tables} (q : Part) (v : List ℕ) (d : Done) (k : ℕ) (h : Built text out opens store b T (inside q v d) k) where
+module _ {text out opens starts lens heads nexts : List ℕ} {b : Draft} {T : Tables} (q : Part) (v : List ℕ) (d : Done) (k : ℕ) (h : Built text out opens starts lens heads nexts b T (inside q v d) k) where
   abbrev place : ℕ
   place = b.from + (get_or opens (k - 1) 0 + 3)
 
@@ -95,13 +94,13 @@ module _ {text out opens : List ℕ} {store : NameStore} {b : Draft} {T : Tables
   pub top-room : b.len ≤ 1031 → place < length out
   top-room = open_room q v (size d) place (done_spots d []) at_top h.weighed h.drafted
 
-  pub top-raised : Drafted text (bumped out place) store b T (raise (nodes q) (drafts (inside q v d) []))
+  pub top-raised : Drafted text (bumped out place) starts lens heads nexts b T (raise (nodes q) (drafts (inside q v d) []))
   top-raised =
-      subst (Drafted text (bumped out place) store b T) (inv (opened-raised q (sort_in q) v (size d) (done_spots d [])))
+      subst (Drafted text (bumped out place) starts lens heads nexts b T) (inv (opened-raised q (sort_in q) v (size d) (done_spots d [])))
       (open_raised q v (size d) place (done_spots d []) at_top h.weighed h.drafted)
 
 -- the same where nothing is known of the part but that a bracket is open
-pub top-facts : {text out opens : List ℕ} {store : NameStore} {b : Draft} {T : Tables} (p : Part) (k : ℕ) → Built text out opens store b T p k → SmallPart p → nodes p ≤ 255 → (k ≡ 0 → ⊥) →
+pub top-facts : {text out opens starts lens heads nexts : List ℕ} {b : Draft} {T : Tables} (p : Part) (k : ℕ) → Built text out opens starts lens heads nexts b T p k → SmallPart p → nodes p ≤ 255 → (k ≡ 0 → ⊥) →
     (b.from + (get_or opens (k - 1) 0 + 3) < length out) × (get_or out (b.from + (get_or opens (k - 1) 0 + 3)) 0 < 255)
 top-facts (formulas fs) k h s l z = absurd (none_open k h.opened z)
   where
@@ -109,28 +108,28 @@ top-facts (formulas fs) k h s l z = absurd (none_open k h.opened z)
     none_open k shut z = z refl
 top-facts (inside q v d) k h s l z = (top-room q v d k h (omega (arith, len_low h l)), omega (arith, top-arity q v d k h, s.4))
 
-top-some : {text out opens : List ℕ} {store : NameStore} {b : Draft} {T : Tables} (p : Part) (k : ℕ) → Built text out opens store b T p k → (k ≡ 0 → ⊥) →
-    (e : List Spot) × Drafted text (bumped out (b.from + (get_or opens (k - 1) 0 + 3))) store b T e
+top-some : {text out opens starts lens heads nexts : List ℕ} {b : Draft} {T : Tables} (p : Part) (k : ℕ) → Built text out opens starts lens heads nexts b T p k → (k ≡ 0 → ⊥) →
+    (e : List Spot) × Drafted text (bumped out (b.from + (get_or opens (k - 1) 0 + 3))) starts lens heads nexts b T e
 top-some (formulas fs) k h z = absurd (none_open k h.opened z)
   where
     none_open : {opens : List ℕ} {fs : List Formula} (k : ℕ) → Opens opens (formulas fs) k → (k ≡ 0 → ⊥) → ⊥
     none_open k shut z = z refl
 top-some (inside q v d) k h z = (_, top-raised q v d k h)
 
-pub top-somewhere : {text out out₁ opens : List ℕ} {store : NameStore} {b : Draft} {T : Tables} (p : Part) (k : ℕ) → Built text out opens store b T p k → (k ≡ 0 → ⊥) →
-    out₁ ≡ bumped out (b.from + (get_or opens (k - 1) 0 + 3)) → Somewhere text out₁ store b
-top-somewhere {text} {out} {out₁} {opens} {store} {b} {T} p k h z q =
-    let s = top-some p k h z in record { base = T; spots = s.0; drafted = subst (λ (o : List ℕ). Drafted text o store b T s.0) (inv q) s.1 }
+pub top-somewhere : {text out out₁ opens starts lens heads nexts : List ℕ} {b : Draft} {T : Tables} (p : Part) (k : ℕ) → Built text out opens starts lens heads nexts b T p k → (k ≡ 0 → ⊥) →
+    out₁ ≡ bumped out (b.from + (get_or opens (k - 1) 0 + 3)) → Somewhere text out₁ starts lens heads nexts b
+top-somewhere {text} {out} {out₁} {opens} {starts} {lens} {heads} {nexts} {b} {T} p k h z q =
+    let s = top-some p k h z in record { base = T; spots = s.0; drafted = subst (λ (o : List ℕ). Drafted text o starts lens heads nexts b T s.0) (inv q) s.1 }
 
 -- Names
 
-module _ (text out out' opens : List ℕ) (store store' : NameStore) (b r : Draft) (k : ℕ) (w : List ℕ) where
-  pub open_built : Adds text out out' store store' b (kind_at k) w r → (T : Tables) (p : Part) → Built text out opens store b T p k → nodes p ≤ 255 →
-      Built text out' (set opens k b.len) store' r T (inside p w none_yet) (k + 1)
+module _ (text out out' opens starts lens heads nexts starts' lens' heads' nexts' : List ℕ) (b r : Draft) (k : ℕ) (w : List ℕ) where
+  pub open_built : Adds text out out' starts lens heads nexts starts' lens' heads' nexts' b (kind_at k) w r → (T : Tables) (p : Part) → Built text out opens starts lens heads nexts b T p k → nodes p ≤ 255 →
+      Built text out' (set opens k b.len) starts' lens' heads' nexts' r T (inside p w none_yet) (k + 1)
   open_built a T p h l =
       let e : drafts p [] ++ (symbol_spot (sort_of_kind (kind_at k)) w 0 ∷ []) ≡ drafts (inside p w none_yet) [] =
       ap (λ (s : Sort). drafts p [] ++ (symbol_spot s w 0 ∷ [])) (kind-sort p k h.opened) ∙ inv (opening-drafts p w) in
-      let d : Drafted text out' store' r T (drafts (inside p w none_yet) []) = subst (Drafted text out' store' r T) e (a.adds T (drafts p []) h.drafted) in
+      let d : Drafted text out' starts' lens' heads' nexts' r T (drafts (inside p w none_yet) []) = subst (Drafted text out' starts' lens' heads' nexts' r T) e (a.adds T (drafts p []) h.drafted) in
       let q : suc k ≡ k + 1 = omega arith in
       record {
         drafted = d;
@@ -142,59 +141,59 @@ module _ (text out out' opens : List ℕ) (store store' : NameStore) (b r : Draf
         weighed = weighs d (omega (arith, a.grows, len_low h l));
       }
 
-  pub formula-built : Adds text out out' store store' b Predicate w r → k ≡ 0 → (T : Tables) (p : Part) → Built text out opens store b T p k → nodes p ≤ 255 →
-      Built text out' opens store' r T (put p w none) k
+  pub formula-built : Adds text out out' starts lens heads nexts starts' lens' heads' nexts' b Predicate w r → k ≡ 0 → (T : Tables) (p : Part) → Built text out opens starts lens heads nexts b T p k → nodes p ≤ 255 →
+      Built text out' opens starts' lens' heads' nexts' r T (put p w none) k
   formula-built a z T (formulas fs) h l =
-      let d : Drafted text out' store' r T (drafts (put (formulas fs) w none) []) =
-      subst (Drafted text out' store' r T) (inv (formula-drafts fs w)) (a.adds T (drafts (formulas fs) []) h.drafted) in
+      let d : Drafted text out' starts' lens' heads' nexts' r T (drafts (put (formulas fs) w none) []) =
+      subst (Drafted text out' starts' lens' heads' nexts' r T) (inv (formula-drafts fs w)) (a.adds T (drafts (formulas fs) []) h.drafted) in
       record { drafted = d; opened = put-opens (formulas fs) k w none h.opened; opens_long = h.opens_long; weighed = weighs d (omega (arith, a.grows, len_low h l)) }
   formula-built a z T (inside q v e) h l = absurd (some_open k h.opened z)
     where
       some_open : {opens : List ℕ} (k : ℕ) → Opens opens (inside q v e) k → k ≡ 0 → ⊥
       some_open k (open_at g t) z = omega arith
 
-  pub constant-built : Adds text (bumped out (b.from + (get_or opens (k - 1) 0 + 3))) out' store store' b Constant w r → (k ≡ 0 → ⊥) → (T : Tables) (p : Part) →
-      Built text out opens store b T p k → nodes p ≤ 255 → Built text out' opens store' r T (put p w none) k
+  pub constant-built : Adds text (bumped out (b.from + (get_or opens (k - 1) 0 + 3))) out' starts lens heads nexts starts' lens' heads' nexts' b Constant w r → (k ≡ 0 → ⊥) → (T : Tables) (p : Part) →
+      Built text out opens starts lens heads nexts b T p k → nodes p ≤ 255 → Built text out' opens starts' lens' heads' nexts' r T (put p w none) k
   constant-built a z T (formulas fs) h l = absurd (none_open k h.opened z)
     where
       none_open : {opens : List ℕ} {fs : List Formula} (k : ℕ) → Opens opens (formulas fs) k → (k ≡ 0 → ⊥) → ⊥
       none_open k shut z = z refl
   constant-built a z T (inside q v e) h l =
-      let d : Drafted text out' store' r T (drafts (put (inside q v e) w none) []) =
-      subst (Drafted text out' store' r T) (inv (constant-drafts q v w e)) (a.adds T _ (top-raised q v e k h)) in
+      let d : Drafted text out' starts' lens' heads' nexts' r T (drafts (put (inside q v e) w none) []) =
+      subst (Drafted text out' starts' lens' heads' nexts' r T) (inv (constant-drafts q v w e)) (a.adds T _ (top-raised q v e k h)) in
       record { drafted = d; opened = put-opens (inside q v e) k w none h.opened; opens_long = h.opens_long; weighed = weighs d (omega (arith, a.grows, len_low h l)) }
 
 -- What the program calls so
 
-pub opened-all : (text out out' opens opens' : List ℕ) (store store' : NameStore) (w : Work) (r : Draft) (k : Kind) → k ≡ kind_at w.depth → opens' ≡ set opens w.depth w.draft.len →
-    Adds text out out' store store' w.draft k (word text w.at w.len) r → Opened text out out' opens opens' store store' w r
-opened-all text out out' opens opens' store store' w r k p q a =
+pub opened-all : (text out out' opens opens' starts lens heads nexts starts' lens' heads' nexts' : List ℕ) (w : Work) (r : Draft) (k : Kind) → k ≡ kind_at w.depth → opens' ≡ set opens w.depth w.draft.len →
+    Adds text out out' starts lens heads nexts starts' lens' heads' nexts' w.draft k (word text w.at w.len) r → Opened text out out' opens opens' starts lens heads nexts starts' lens' heads' nexts' w r
+opened-all text out out' opens opens' starts lens heads nexts starts' lens' heads' nexts' w r k p q a =
     record {
       builds =
           λ T part h l.
-          subst (λ (o : List ℕ). Built text out' o store' r T (inside part (word text w.at w.len) none_yet) (w.depth + 1)) (inv q)
-          (open_built text out out' opens store store' w.draft r w.depth (word text w.at w.len)
-          (subst (λ (x : Kind). Adds text out out' store store' w.draft x (word text w.at w.len) r) p a) T part h l);
+          subst (λ (o : List ℕ). Built text out' o starts' lens' heads' nexts' r T (inside part (word text w.at w.len) none_yet) (w.depth + 1)) (inv q)
+          (open_built text out out' opens starts lens heads nexts starts' lens' heads' nexts' w.draft r w.depth (word text w.at w.len)
+          (subst (λ (x : Kind). Adds text out out' starts lens heads nexts starts' lens' heads' nexts' w.draft x (word text w.at w.len) r) p a) T part h l);
       from_stays = a.from_stays;
       kept = a.kept;
     }
 
-pub alone-root : (text out out' opens : List ℕ) (store store' : NameStore) (w : Work) (r : Draft) → w.depth ≡ 0 →
-    Adds text out out' store store' w.draft Predicate (word text w.at w.len) r → Alone text out out' opens store store' w r
-alone-root text out out' opens store store' w r z a =
+pub alone-root : (text out out' opens starts lens heads nexts starts' lens' heads' nexts' : List ℕ) (w : Work) (r : Draft) → w.depth ≡ 0 →
+    Adds text out out' starts lens heads nexts starts' lens' heads' nexts' w.draft Predicate (word text w.at w.len) r → Alone text out out' opens starts lens heads nexts starts' lens' heads' nexts' w r
+alone-root text out out' opens starts lens heads nexts starts' lens' heads' nexts' w r z a =
     record {
-      builds = formula-built text out out' opens store store' w.draft r w.depth (word text w.at w.len) a z;
+      builds = formula-built text out out' opens starts lens heads nexts starts' lens' heads' nexts' w.draft r w.depth (word text w.at w.len) a z;
       from_stays = a.from_stays;
       kept = a.kept;
     }
 
-pub alone-nested : (text out out₁ out' opens : List ℕ) (store store' : NameStore) (w : Work) (r : Draft) → (w.depth ≡ 0 → ⊥) → out₁ ≡ bumped out (w.draft.from + (get_or opens (w.depth - 1) 0 + 3)) →
-    Adds text out₁ out' store store' w.draft Constant (word text w.at w.len) r → Alone text out out' opens store store' w r
-alone-nested text out out₁ out' opens store store' w r z q a =
+pub alone-nested : (text out out₁ out' opens starts lens heads nexts starts' lens' heads' nexts' : List ℕ) (w : Work) (r : Draft) → (w.depth ≡ 0 → ⊥) → out₁ ≡ bumped out (w.draft.from + (get_or opens (w.depth - 1) 0 + 3)) →
+    Adds text out₁ out' starts lens heads nexts starts' lens' heads' nexts' w.draft Constant (word text w.at w.len) r → Alone text out out' opens starts lens heads nexts starts' lens' heads' nexts' w r
+alone-nested text out out₁ out' opens starts lens heads nexts starts' lens' heads' nexts' w r z q a =
     record {
       builds =
-          constant-built text out out' opens store store' w.draft r w.depth (word text w.at w.len)
-          (subst (λ (o : List ℕ). Adds text o out' store store' w.draft Constant (word text w.at w.len) r) q a) z;
+          constant-built text out out' opens starts lens heads nexts starts' lens' heads' nexts' w.draft r w.depth (word text w.at w.len)
+          (subst (λ (o : List ℕ). Adds text o out' starts lens heads nexts starts' lens' heads' nexts' w.draft Constant (word text w.at w.len) r) q a) z;
       from_stays = a.from_stays;
       kept =
           λ n l.

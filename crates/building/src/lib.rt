@@ -6,7 +6,6 @@ ghost use Rattle.building.specs.Built.{kind_at, bumped, Ready, Opened, Alone, Ne
 
 use drafts::writing::raise;
 use drafts::{Draft, Kind, Named, symbol, variable};
-use symbols::NameStore;
 use words::get;
 
 // The name that a token settles, and how many brackets are open.
@@ -38,9 +37,18 @@ fn kind_at(depth: usize) -> Kind
 }
 
 // A bracket behind a name.
-pub fn open(text: &[u8], store: &mut NameStore, out: &mut [u8], opens: &mut [u16], w: Work) -> Draft
-    requires { Ready text.now out.old opens.old store.old w }
-    ensures { Opened text.now out.old out.new opens.old opens.new store.old store.new w result }
+pub fn open(
+    text: &[u8],
+    starts: &mut [u16],
+    lens: &mut [u8],
+    heads: &mut [u16],
+    nexts: &mut [u16],
+    out: &mut [u8],
+    opens: &mut [u16],
+    w: Work,
+) -> Draft
+    requires { Ready text.now out.old opens.old starts.old lens.old heads.old nexts.old w }
+    ensures { Opened text.now out.old out.new opens.old opens.new starts.old lens.old heads.old nexts.old starts.new lens.new heads.new nexts.new w result }
 {
     let Work {
         draft: b,
@@ -51,13 +59,22 @@ pub fn open(text: &[u8], store: &mut NameStore, out: &mut [u8], opens: &mut [u16
     opens[depth] = b.len as u16;
     let kind = kind_at(depth);
     let name = Named { kind, at, len };
-    symbol(text, store, out, b, name)
+    symbol(text, starts, lens, heads, nexts, out, b, name)
 }
 
 // A name that stands alone.
-pub fn alone(text: &[u8], store: &mut NameStore, out: &mut [u8], opens: &[u16], w: Work) -> Draft
-    requires { Ready text.now out.old opens.now store.old w }
-    ensures { Alone text.now out.old out.new opens.now store.old store.new w result }
+pub fn alone(
+    text: &[u8],
+    starts: &mut [u16],
+    lens: &mut [u8],
+    heads: &mut [u16],
+    nexts: &mut [u16],
+    out: &mut [u8],
+    opens: &[u16],
+    w: Work,
+) -> Draft
+    requires { Ready text.now out.old opens.now starts.old lens.old heads.old nexts.old w }
+    ensures { Alone text.now out.old out.new opens.now starts.old lens.old heads.old nexts.old starts.new lens.new heads.new nexts.new w result }
 {
     let Work {
         draft: b,
@@ -68,12 +85,12 @@ pub fn alone(text: &[u8], store: &mut NameStore, out: &mut [u8], opens: &[u16], 
     if depth == 0 {
         let kind = Kind::Predicate;
         let name = Named { kind, at, len };
-        return symbol(text, store, out, b, name);
+        return symbol(text, starts, lens, heads, nexts, out, b, name);
     }
     bump(out, opens, b.from, depth - 1);
     let kind = Kind::Constant;
     let name = Named { kind, at, len };
-    symbol(text, store, out, b, name)
+    symbol(text, starts, lens, heads, nexts, out, b, name)
 }
 
 // One more argument, a variable by its number.

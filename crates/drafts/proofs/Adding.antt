@@ -17,11 +17,10 @@ use Rattle.drafts.specs.declared.Draft.{Draft}
 use Rattle.drafts.specs.Writing.{Wrote, symbol_bytes}
 use Rattle.drafts.specs.Drafted.{sort_of_kind, Tables, after, bytes_of, section_of, counted_of, Drafted, Adds}
 use Rattle.drafts.proofs.Nodes.{bytes-append, symbol-bytes, place-grown, after-append}
-use Rattle.symbols.specs.declared.NameStore.{NameStore}
 
 -- Room
 
-pub section_room : {text out : List ℕ} {store : NameStore} {b : Draft} {T : Tables} {e : List Spot} → Drafted text out store b T e → b.len ≤ 1020 → (k : Kind) →
+pub section_room : {text out starts lens heads nexts : List ℕ} {b : Draft} {T : Tables} {e : List Spot} → Drafted text out starts lens heads nexts b T e → b.len ≤ 1020 → (k : Kind) →
     (section_of b k).count < (section_of b k).room
 section_room d l Constant = omega (arith, d.constants_few, d.low, l)
 section_room d l Compound = omega (arith, d.compounds_few, d.low, l)
@@ -32,8 +31,8 @@ room-low b Constant = omega arith
 room-low b Compound = omega arith
 room-low b Predicate = omega arith
 
-pub number_low : {text out : List ℕ} {store store' : NameStore} {b : Draft} {T : Tables} {e : List Spot} (k : Kind) (w : List ℕ) (r : ℕ) → Drafted text out store b T e → b.len ≤ 1020 →
-    Numbers text store store' (section_of b k) w r → r < 65536
+pub number_low : {text out starts lens heads nexts starts' lens' heads' nexts' : List ℕ} {b : Draft} {T : Tables} {e : List Spot} (k : Kind) (w : List ℕ) (r : ℕ) → Drafted text out starts lens heads nexts b T e → b.len ≤ 1020 →
+    Numbers text starts lens heads nexts starts' lens' heads' nexts' (section_of b k) w r → r < 65536
 number_low {b = b} {T} {e} k w r d l n =
     omega (arith, n.answers _ (d.tables k), place-low w (after T e (sort_of_kind k)), (d.tables k).table.entries.count, section_room d l k, room-low b k)
 
@@ -127,29 +126,29 @@ symbol-long Predicate r = omega arith
 
 -- A symbol
 
-module _ (text out : List ℕ) (store : NameStore) (out' : List ℕ) (store' : NameStore) (b : Draft) (k : Kind) (w : List ℕ) (r m : ℕ)
-    (n : Numbers text store store' (section_of b k) w r) (o : Wrote out out' (b.from + b.len) (symbol_bytes k r)) (s : m ≡ length (symbol_bytes k r)) where
+module _ (text out starts lens heads nexts out' starts' lens' heads' nexts' : List ℕ) (b : Draft) (k : Kind) (w : List ℕ) (r m : ℕ)
+    (n : Numbers text starts lens heads nexts starts' lens' heads' nexts' (section_of b k) w r) (o : Wrote out out' (b.from + b.len) (symbol_bytes k r)) (s : m ≡ length (symbol_bytes k r)) where
   abbrev grown : Draft
   grown = counted_of b k (next (section_of b k) r).count (b.len + m)
 
   abbrev node : List Spot
   node = symbol_spot (sort_of_kind k) w 0 ∷ []
 
-  table_of : (T : Tables) (e : List Spot) → Drafted text out store b T e → (j : Kind) → Holds text store' (section_of grown j) (after T (e ++ node) (sort_of_kind j))
+  table_of : (T : Tables) (e : List Spot) → Drafted text out starts lens heads nexts b T e → (j : Kind) → Holds text starts' lens' heads' nexts' (section_of grown j) (after T (e ++ node) (sort_of_kind j))
   table_of T e d j =
-      subst (Holds text store' (section_of grown j)) (inv (after-append T (sort_of_kind j) e node))
+      subst (Holds text starts' lens' heads' nexts' (section_of grown j)) (inv (after-append T (sort_of_kind j) e node))
       (cases (is_sort (sort_of_kind j) (sort_of_kind k))
       (λ t.
       let q = same_kind k j t in
       rw t
-      (subst (λ (c : Section). Holds text store' c (grow (after T e (sort_of_kind j)) w)) (inv (own_section b k j r (b.len + m) t))
-      (subst (λ (i : Kind). Holds text store' (next (section_of b k) r) (grow (after T e (sort_of_kind i)) w)) q (n.table _ (d.tables k)))))
+      (subst (λ (c : Section). Holds text starts' lens' heads' nexts' c (grow (after T e (sort_of_kind j)) w)) (inv (own_section b k j r (b.len + m) t))
+      (subst (λ (i : Kind). Holds text starts' lens' heads' nexts' (next (section_of b k) r) (grow (after T e (sort_of_kind i)) w)) q (n.table _ (d.tables k)))))
       (λ t.
       rw t
-      (subst (λ (c : Section). Holds text store' c (after T e (sort_of_kind j))) (inv (other_section b k j (next (section_of b k) r).count (b.len + m) t))
+      (subst (λ (c : Section). Holds text starts' lens' heads' nexts' c (after T e (sort_of_kind j))) (inv (other_section b k j (next (section_of b k) r).count (b.len + m) t))
       (n.others (section_of b j) _ (apart b k j t) (heads-apart b k j t) (d.tables j)))))
 
-  written : (T : Tables) (e : List Spot) → Drafted text out store b T e → part b.from (b.len + m) out' ≡ bytes_of T [] (e ++ node)
+  written : (T : Tables) (e : List Spot) → Drafted text out starts lens heads nexts b T e → part b.from (b.len + m) out' ≡ bytes_of T [] (e ++ node)
   written T e d =
       ap (λ (x : ℕ). part b.from (b.len + x) out') s
       ∙ o.pushed b.from b.len refl
@@ -157,7 +156,7 @@ module _ (text out : List ℕ) (store : NameStore) (out' : List ℕ) (store' : N
       (ap (symbol_bytes k) (n.answers _ (d.tables k) ∙ inv (place-grown w (after T e (sort_of_kind k)))) ∙ inv (symbol-bytes (after T e) (variables_after [] e) k w))
       ∙ inv (bytes-append T [] e node)
 
-  added : (T : Tables) (e : List Spot) → Drafted text out store b T e → Drafted text out' store' grown T (e ++ node)
+  added : (T : Tables) (e : List Spot) → Drafted text out starts lens heads nexts b T e → Drafted text out' starts' lens' heads' nexts' grown T (e ++ node)
   added T e d =
       let f = subst (λ (x : ℕ). Few (counted_of b k (next (section_of b k) r).count (b.len + x))) (inv s)
       (still_few b k (next (section_of b k) r).count r (record { constants = d.constants_few; compounds = d.compounds_few; predicates = d.predicates_few }) (next_one (section_of b k) r)) in
@@ -171,7 +170,7 @@ module _ (text out : List ℕ) (store : NameStore) (out' : List ℕ) (store' : N
         long = o.same ∙ d.long;
       }
 
-  symbol-added : Adds text out out' store store' b k w grown
+  symbol-added : Adds text out out' starts lens heads nexts starts' lens' heads' nexts' b k w grown
   symbol-added =
       record {
         adds = added;
@@ -181,16 +180,16 @@ module _ (text out : List ℕ) (store : NameStore) (out' : List ℕ) (store' : N
       }
 
 -- by what the program calls its sections
-pub adds-symbol : (text out : List ℕ) (store : NameStore) (out' : List ℕ) (store' : NameStore) (b : Draft) (k : Kind) (w : List ℕ) (r m : ℕ) (c d : Section) (result : Draft) → c ≡ section_of b k → d ≡ next c r →
-    result ≡ counted_of b k d.count (b.len + m) → Numbers text store store' c w r → Wrote out out' (b.from + b.len) (symbol_bytes k r) → m ≡ length (symbol_bytes k r) →
-    Adds text out out' store store' b k w result
-adds-symbol text out store out' store' b k w r m c d result p q f n o s =
-    subst (Adds text out out' store store' b k w) (inv (f ∙ ap (λ (x : Section). counted_of b k x.count (b.len + m)) (q ∙ ap (λ (x : Section). next x r) p)))
-    (symbol-added text out store out' store' b k w r m (subst (λ (x : Section). Numbers text store store' x w r) p n) o s)
+pub adds-symbol : (text out starts lens heads nexts out' starts' lens' heads' nexts' : List ℕ) (b : Draft) (k : Kind) (w : List ℕ) (r m : ℕ) (c d : Section) (result : Draft) → c ≡ section_of b k → d ≡ next c r →
+    result ≡ counted_of b k d.count (b.len + m) → Numbers text starts lens heads nexts starts' lens' heads' nexts' c w r → Wrote out out' (b.from + b.len) (symbol_bytes k r) → m ≡ length (symbol_bytes k r) →
+    Adds text out out' starts lens heads nexts starts' lens' heads' nexts' b k w result
+adds-symbol text out starts lens heads nexts out' starts' lens' heads' nexts' b k w r m c d result p q f n o s =
+    subst (Adds text out out' starts lens heads nexts starts' lens' heads' nexts' b k w) (inv (f ∙ ap (λ (x : Section). counted_of b k x.count (b.len + m)) (q ∙ ap (λ (x : Section). next x r) p)))
+    (symbol-added text out starts lens heads nexts out' starts' lens' heads' nexts' b k w r m (subst (λ (x : Section). Numbers text starts lens heads nexts starts' lens' heads' nexts' x w r) p n) o s)
 
-module _ {text out : List ℕ} {store : NameStore} {b : Draft} {T : Tables} {e : List Spot} (d : Drafted text out store b T e) (k : Kind) (c : Section) (p : c ≡ section_of b k) where
-  pub section_held : Holds text store c (after T e (sort_of_kind k))
-  section_held = subst (λ (x : Section). Holds text store x (after T e (sort_of_kind k))) (inv p) (d.tables k)
+module _ {text out starts lens heads nexts : List ℕ} {b : Draft} {T : Tables} {e : List Spot} (d : Drafted text out starts lens heads nexts b T e) (k : Kind) (c : Section) (p : c ≡ section_of b k) where
+  pub section_held : Holds text starts lens heads nexts c (after T e (sort_of_kind k))
+  section_held = subst (λ (x : Section). Holds text starts lens heads nexts x (after T e (sort_of_kind k))) (inv p) (d.tables k)
 
   pub section_free : b.len ≤ 1020 → c.count < c.room
   section_free l = subst (λ (x : Section). x.count < x.room) (inv p) (section_room d l k)
@@ -198,9 +197,10 @@ module _ {text out : List ℕ} {store : NameStore} {b : Draft} {T : Tables} {e :
   pub section_few : b.len ≤ 1020 → c.count < 65536
   section_few l = omega (arith, ap (λ (x : Section). x.count) p, section_room d l k, room-low b k)
 
-  pub number-few : {store' : NameStore} (w : List ℕ) (r : ℕ) → b.len ≤ 1020 → Numbers text store store' c w r → r < 65536
-  number-few {store'} w r l n =
-      number_low k w r d l (subst (λ (x : Section). Numbers text store store' x w r) p n)
+  pub number-few : {starts' lens' heads' nexts' : List ℕ} (w : List ℕ) (r : ℕ) → b.len ≤ 1020 → Numbers text starts lens heads nexts starts' lens' heads' nexts' c w r → r < 65536
+  number-few {starts'} {lens'} {heads'} {nexts'} w r l n =
+      number_low k w r d l (subst (λ (x : Section). Numbers text starts lens heads nexts starts' lens' heads' nexts' x w r) p n)
+
 
 pub symbol-short : (k : Kind) (r m : ℕ) → m ≡ length (symbol_bytes k r) → m ≤ 4
 symbol-short k r m s = omega (arith, s, symbol-long k r)

@@ -15,7 +15,6 @@ use Rattle.drafts.specs.declared.Kind.TheVariants.{Constant, Compound, Predicate
 use Rattle.drafts.specs.declared.Draft.{Draft}
 use Rattle.drafts.specs.Drafted.{sort_of_kind, Tables, after, bytes_of, weight, section_of, Drafted, AddsVariable, Bracketed}
 use Rattle.drafts.proofs.Nodes.{bytes-append, after-append}
-use Rattle.symbols.specs.declared.NameStore.{NameStore}
 
 -- Lengths
 
@@ -108,8 +107,8 @@ part_get (suc from) len i (suc j) (y ∷ l) e h = part_get from len i j l (omega
 names-any : (T : Tables) (a r : List Spot) (s k : Sort) (v : List ℕ) (n m : ℕ) → after T (a ++ (symbol_spot s v n ∷ r)) k ≡ after T (a ++ (symbol_spot s v m ∷ r)) k
 names-any T a r s k v n m = after-append T k a (symbol_spot s v n ∷ r) ∙ inv (after-append T k a (symbol_spot s v m ∷ r))
 
-module _ {text out : List ℕ} {store : NameStore} {b : Draft} {T : Tables} (a r : List Spot) (s : Sort) (v : List ℕ) (n j : ℕ) (bracketed : Bracketed s) (at : b.from + (weight a + 3) ≡ j) (inside : weight a + 3 < b.len)
-    (d : Drafted text out store b T (a ++ (symbol_spot s v n ∷ r))) where
+module _ {text out starts lens heads nexts : List ℕ} {b : Draft} {T : Tables} (a r : List Spot) (s : Sort) (v : List ℕ) (n j : ℕ) (bracketed : Bracketed s) (at : b.from + (weight a + 3) ≡ j) (inside : weight a + 3 < b.len)
+    (d : Drafted text out starts lens heads nexts b T (a ++ (symbol_spot s v n ∷ r))) where
   third : weight a + 3 ≡ length (bytes_of T [] a) + 3
   third = omega (arith, bytes-long T [] a)
 
@@ -120,7 +119,7 @@ module _ {text out : List ℕ} {store : NameStore} {b : Draft} {T : Tables} (a r
       ∙ ap (λ (l : List ℕ). get_or l (weight a + 3) 0) (d.bytes ∙ h.is n)
       ∙ get_third (bytes_of T [] a) h.kind h.high h.low n h.rest (weight a + 3) third
 
-  pub raised-drafted : (x : ℕ) → x ≡ n + 1 → Drafted text (set out j x) store b T (a ++ (symbol_spot s v (suc n) ∷ r))
+  pub raised-drafted : (x : ℕ) → x ≡ n + 1 → Drafted text (set out j x) starts lens heads nexts b T (a ++ (symbol_spot s v (suc n) ∷ r))
   raised-drafted x e =
       let h = shape T a r s v bracketed in
       let q : x ≡ suc n = omega (arith, e) in
@@ -131,7 +130,7 @@ module _ {text out : List ℕ} {store : NameStore} {b : Draft} {T : Tables} (a r
             ∙ set-third (bytes_of T [] a) h.kind h.high h.low n x h.rest (weight a + 3) third
             ∙ ap (λ (y : ℕ). bytes_of T [] a ++ (h.kind ∷ h.high ∷ h.low ∷ y ∷ h.rest)) q
             ∙ inv (h.is (suc n));
-        tables = λ k. subst (Holds text store (section_of b k)) (names-any T a r s (sort_of_kind k) v n (suc n)) (d.tables k);
+        tables = λ k. subst (Holds text starts lens heads nexts (section_of b k)) (names-any T a r s (sort_of_kind k) v n (suc n)) (d.tables k);
         constants_few = d.constants_few;
         compounds_few = d.compounds_few;
         predicates_few = d.predicates_few;
@@ -147,10 +146,10 @@ longer_sections b n Constant = refl
 longer_sections b n Compound = refl
 longer_sections b n Predicate = refl
 
-pub variable-drafted : {text out out' : List ℕ} {store : NameStore} {b r : Draft} {T : Tables} (e : List Spot) (w : List ℕ) (v : ℕ) → Drafted text out store b T e →
-    v ≡ variable_number (variables_after [] e) w → AddsVariable out out' b v r → Drafted text out' store r T (e ++ (variable_spot w ∷ []))
-variable-drafted {text} {out} {out'} {store} {b} {r} {T} e w v d p a =
-    subst (λ (x : Draft). Drafted text out' store x T (e ++ (variable_spot w ∷ []))) (inv a.draft)
+pub variable-drafted : {text out out' starts lens heads nexts : List ℕ} {b r : Draft} {T : Tables} (e : List Spot) (w : List ℕ) (v : ℕ) → Drafted text out starts lens heads nexts b T e →
+    v ≡ variable_number (variables_after [] e) w → AddsVariable out out' b v r → Drafted text out' starts lens heads nexts r T (e ++ (variable_spot w ∷ []))
+variable-drafted {text} {out} {out'} {starts} {lens} {heads} {nexts} {b} {r} {T} e w v d p a =
+    subst (λ (x : Draft). Drafted text out' starts lens heads nexts x T (e ++ (variable_spot w ∷ []))) (inv a.draft)
     (record {
       bytes =
           a.wrote.pushed b.from b.len refl
@@ -158,8 +157,8 @@ variable-drafted {text} {out} {out'} {store} {b} {r} {T} e w v d p a =
           ∙ inv (bytes-append T [] e (variable_spot w ∷ []));
       tables =
           λ k.
-          subst (λ (c : Section). Holds text store c (after T (e ++ (variable_spot w ∷ [])) (sort_of_kind k))) (longer_sections b (b.len + 3) k)
-          (subst (Holds text store (section_of b k)) (inv (after-append T (sort_of_kind k) e (variable_spot w ∷ []))) (d.tables k));
+          subst (λ (c : Section). Holds text starts lens heads nexts c (after T (e ++ (variable_spot w ∷ [])) (sort_of_kind k))) (longer_sections b (b.len + 3) k)
+          (subst (Holds text starts lens heads nexts (section_of b k)) (inv (after-append T (sort_of_kind k) e (variable_spot w ∷ []))) (d.tables k));
       constants_few = omega (arith, d.constants_few);
       compounds_few = omega (arith, d.compounds_few);
       predicates_few = omega (arith, d.predicates_few);
@@ -183,6 +182,6 @@ weight-low (symbol_spot Names.Constant w n ∷ e) = omega (arith, weight-low e)
 weight-low (symbol_spot Names.Compound w n ∷ e) = omega (arith, weight-low e)
 weight-low (symbol_spot Names.Predicate w n ∷ e) = omega (arith, weight-low e)
 
-pub weighs : {text out : List ℕ} {store : NameStore} {b : Draft} {T : Tables} {e : List Spot} → Drafted text out store b T e → b.len ≤ 1031 → b.len ≡ weight e
+pub weighs : {text out starts lens heads nexts : List ℕ} {b : Draft} {T : Tables} {e : List Spot} → Drafted text out starts lens heads nexts b T e → b.len ≤ 1031 → b.len ≡ weight e
 weighs {out = out} {b = b} {T} {e} d l =
     inv (length-take-le b.len (drop b.from out) (omega (arith, length-drop b.from out, d.low, d.long, l))) ∙ ap length d.bytes ∙ bytes-long T [] e

@@ -10,7 +10,6 @@ use Rattle.drafts.specs.declared.Kind.{Kind}
 use Rattle.drafts.specs.declared.Kind.TheVariants.{Constant, Compound, Predicate}
 use Rattle.drafts.specs.declared.Draft.{Draft}
 use Rattle.drafts.specs.Writing.{Wrote}
-use Rattle.symbols.specs.declared.NameStore.{NameStore}
 
 abbrev pub sort_of_kind : Kind → Sort
 sort_of_kind Constant = Names.Constant
@@ -53,23 +52,23 @@ counted_of b Constant n len = record { from = b.from; len = len; constants = n; 
 counted_of b Compound n len = record { from = b.from; len = len; constants = b.constants; compounds = n; predicates = b.predicates }
 counted_of b Predicate n len = record { from = b.from; len = len; constants = b.constants; compounds = b.compounds; predicates = n }
 
-pub record Drafted (text out : List ℕ) (store : NameStore) (b : Draft) (T : Tables) (e : List Spot) : Type 0 where
+pub record Drafted (text out starts lens heads nexts : List ℕ) (b : Draft) (T : Tables) (e : List Spot) : Type 0 where
   pub bytes : part b.from b.len out ≡ bytes_of T [] e
-  pub tables : (k : Kind) → Holds text store (section_of b k) (after T e (sort_of_kind k))
+  pub tables : (k : Kind) → Holds text starts lens heads nexts (section_of b k) (after T e (sort_of_kind k))
   pub constants_few : 3 * b.constants ≤ b.from + b.len
   pub compounds_few : 4 * b.compounds ≤ b.from + b.len
   pub predicates_few : 4 * b.predicates ≤ b.from + b.len
   pub low : b.from ≤ 32769
   pub long : length out ≡ 33800
 
-pub record Somewhere (text out : List ℕ) (store : NameStore) (b : Draft) : Type 0 where
+pub record Somewhere (text out starts lens heads nexts : List ℕ) (b : Draft) : Type 0 where
   pub base : Tables
   pub spots : List Spot
-  pub drafted : Drafted text out store b base spots
+  pub drafted : Drafted text out starts lens heads nexts b base spots
 
 -- one node more, a symbol that has no argument yet
-pub record Adds (text out out' : List ℕ) (store store' : NameStore) (b : Draft) (k : Kind) (w : List ℕ) (r : Draft) : Type 0 where
-  pub adds : (T : Tables) (e : List Spot) → Drafted text out store b T e → Drafted text out' store' r T (e ++ (symbol_spot (sort_of_kind k) w 0 ∷ []))
+pub record Adds (text out out' starts lens heads nexts starts' lens' heads' nexts' : List ℕ) (b : Draft) (k : Kind) (w : List ℕ) (r : Draft) : Type 0 where
+  pub adds : (T : Tables) (e : List Spot) → Drafted text out starts lens heads nexts b T e → Drafted text out' starts' lens' heads' nexts' r T (e ++ (symbol_spot (sort_of_kind k) w 0 ∷ []))
   pub from_stays : r.from ≡ b.from
   pub grows : r.len ≤ b.len + 4
   pub kept : (n : ℕ) → n ≤ b.from → take n out' ≡ take n out

@@ -8,7 +8,7 @@ ghost use Rattle.drafts.specs.Writing.{Wrote, symbol_bytes};
 ghost use Rattle.drafts.specs.Drafted.{section_of, counted_of, Drafted, Somewhere, Adds, AddsVariable};
 
 use crate::writing::{put3, put4};
-use symbols::{NameStore, Section, next, number_in};
+use symbols::{Section, next, number_in};
 
 pub mod writing; // records as bytes
 
@@ -107,14 +107,23 @@ fn put_symbol(out: &mut [u8], at: usize, kind: Kind, number: usize) -> usize
 }
 
 // One more node, a symbol that has no argument yet.
-pub fn symbol(text: &[u8], store: &mut NameStore, out: &mut [u8], b: Draft, w: Named) -> Draft
-    requires somewhere { Somewhere text.now out.old store.old b }
+pub fn symbol(
+    text: &[u8],
+    starts: &mut [u16],
+    lens: &mut [u8],
+    heads: &mut [u16],
+    nexts: &mut [u16],
+    out: &mut [u8],
+    b: Draft,
+    w: Named,
+) -> Draft
+    requires somewhere { Somewhere text.now out.old starts.old lens.old heads.old nexts.old b }
     requires len_bound { (b.len ≤ 1020) × (w.at + w.len ≤ length text.now) × (w.at < 65536) × (w.len < 256) }
-    ensures { Adds text.now out.old out.new store.old store.new b w.kind (word text.now w.at w.len) result }
+    ensures { Adds text.now out.old out.new starts.old lens.old heads.old nexts.old starts.new lens.new heads.new nexts.new b w.kind (word text.now w.at w.len) result }
 {
     let Named { kind, at, len } = w;
     let c = section(b, kind);
-    let number = number_in(text, store, c, at, len);
+    let number = number_in(text, starts, lens, heads, nexts, c, at, len);
     let d = next(c, number);
     let more = put_symbol(out, b.from + b.len, kind, number);
     counted(b, kind, d.count, b.len + more)

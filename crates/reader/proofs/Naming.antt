@@ -33,7 +33,6 @@ use Rattle.building.specs.Built.{Built, Ready, Opened, Alone}
 use Rattle.reader.specs.declared.Turn.{Turn}
 use Rattle.reader.specs.Kept.{tables_of, levels, Kept, Numbered, Sofar, Step, Turning, waits}
 use Rattle.reader.proofs.Stepping.{kept-sofar, put-levels}
-use Rattle.symbols.specs.declared.NameStore.{NameStore}
 
 deep-levels : {counts : List ℕ} (p : Part) (k : ℕ) → Deep counts p k → k ≡ levels p
 deep-levels (formulas fs) k root = refl
@@ -82,16 +81,16 @@ named-inside {text} c h e = subst (λ (m : M.Mode). NameInside text m c.at c.len
 named-short : (cs : List Rule) (p : Part) (m : Mode) (w : List ℕ) → SmallState (state cs p m) → m ≡ named w → length w ≤ 32
 named-short cs p m w s e = let t : SmallState (state cs p (named w)) = subst (λ (x : Mode). SmallState (state cs p x)) e s in t.mode.2
 
-built-at : {text out opens : List ℕ} {store : NameStore} {counts vars : List ℕ} {b : Draft} (c : Stage) {s : State} → Held text counts vars c s → Kept text out opens store b s →
-    Built text out opens store b (tables_of s.rules) s.part c.depth
-built-at {text} {out} {opens} {store} {b = b} c {s} h k =
-    subst (Built text out opens store b (tables_of s.rules) s.part) (inv (deep-levels s.part c.depth h.deep)) k.built
+built-at : {text out opens starts lens heads nexts counts vars : List ℕ} {b : Draft} (c : Stage) {s : State} → Held text counts vars c s → Kept text out opens starts lens heads nexts b s →
+    Built text out opens starts lens heads nexts b (tables_of s.rules) s.part c.depth
+built-at {text} {out} {opens} {starts} {lens} {heads} {nexts} {b = b} c {s} h k =
+    subst (Built text out opens starts lens heads nexts b (tables_of s.rules) s.part) (inv (deep-levels s.part c.depth h.deep)) k.built
 
 nodes-low : {text counts vars : List ℕ} (c : Stage) {s : State} → Held text counts vars c s → c.mode ≡ Named → nodes s.part ≤ 255
 nodes-low c h e = omega (arith, named-nodes c h e, h.nodes_are)
 
-pub ready : {text out opens : List ℕ} {store : NameStore} {b : Draft} {at : ℕ} {w : Turn} {s s' : State} → Kept text out opens store b s → Turning text at w s s' → waits w.stage.mode ≡ true →
-    Ready text out opens store (work_of b w.stage)
+pub ready : {text out opens starts lens heads nexts : List ℕ} {b : Draft} {at : ℕ} {w : Turn} {s s' : State} → Kept text out opens starts lens heads nexts b s → Turning text at w s s' → waits w.stage.mode ≡ true →
+    Ready text out opens starts lens heads nexts (work_of b w.stage)
 ready {text} {w = w} {s} k t e =
     let c = w.stage in
     let m = waiting c.mode e in
@@ -115,10 +114,10 @@ opening-after cs p m w at s e j =
     let q : state cs (inside p w none_yet) expects ≡ s = cc in
     inv q
 
-pub bracket-sofar : {text out out' opens opens' : List ℕ} {store store' : NameStore} {b r : Draft} {at : ℕ} {w : Turn} {s s' : State} → Kept text out opens store b s → Turning text at w s s' →
-    waits w.stage.mode ≡ true → is_opening_found w.found ≡ true → Opened text out out' opens opens' store store' (work_of b w.stage) r →
-    Sofar text out' opens' store' r s'
-bracket-sofar {text} {out} {out'} {opens} {opens'} {store} {store'} {b} {r} {at} {w} {s} {s'} k t e o a =
+pub bracket-sofar : {text out out' opens opens' starts lens heads nexts starts' lens' heads' nexts' : List ℕ} {b r : Draft} {at : ℕ} {w : Turn} {s s' : State} → Kept text out opens starts lens heads nexts b s → Turning text at w s s' →
+    waits w.stage.mode ≡ true → is_opening_found w.found ≡ true → Opened text out out' opens opens' starts lens heads nexts starts' lens' heads' nexts' (work_of b w.stage) r →
+    Sofar text out' opens' starts' lens' heads' nexts' r s'
+bracket-sofar {text} {out} {out'} {opens} {opens'} {starts} {lens} {heads} {nexts} {starts'} {lens'} {heads'} {nexts'} {b} {r} {at} {w} {s} {s'} k t e o a =
     let c = w.stage in
     let m = waiting c.mode e in
     let v = word text c.at c.len in
@@ -128,10 +127,10 @@ bracket-sofar {text} {out} {out'} {opens} {opens'} {store} {store'} {b} {r} {at}
     let z = opening-after s.rules s.part s.mode v at s' (named-mode c t.held m) j in
     let d : c.depth + 1 ≡ suc (levels s.part) = omega (arith, deep-levels s.part c.depth t.held.deep) in
     kept-sofar
-    (subst (Kept text out' opens' store' r) (inv z)
+    (subst (Kept text out' opens' starts' lens' heads' nexts' r) (inv z)
     (record {
       built =
-          subst (Built text out' opens' store' r (tables_of s.rules) (inside s.part v none_yet)) d
+          subst (Built text out' opens' starts' lens' heads' nexts' r (tables_of s.rules) (inside s.part v none_yet)) d
           (a.builds (tables_of s.rules) s.part (built-at c t.held k) (nodes-low c t.held m));
       start = k.start;
       behind = k.behind ∙ inv a.from_stays;
@@ -157,8 +156,8 @@ numbered-same text at v F.HalfArrow s s' e h = tt
 numbered-same text at v F.HalfStop s s' e h = tt
 numbered-same text at v F.Nothing s s' e h = tt
 
-module _ {text out out' opens : List ℕ} {store store' : NameStore} {b r : Draft} {at : ℕ} {w : Turn} {s s' : State} (k : Kept text out opens store b s) (t : Turning text at w s s')
-    (e : waits w.stage.mode ≡ true) (o : is_opening_found w.found ≡ false) (a : Alone text out out' opens store store' (work_of b w.stage) r) where
+module _ {text out out' opens starts lens heads nexts starts' lens' heads' nexts' : List ℕ} {b r : Draft} {at : ℕ} {w : Turn} {s s' : State} (k : Kept text out opens starts lens heads nexts b s) (t : Turning text at w s s')
+    (e : waits w.stage.mode ≡ true) (o : is_opening_found w.found ≡ false) (a : Alone text out out' opens starts lens heads nexts starts' lens' heads' nexts' (work_of b w.stage) r) where
   abbrev v : List ℕ
   v = word text w.stage.at w.stage.len
 
@@ -168,12 +167,12 @@ module _ {text out out' opens : List ℕ} {store store' : NameStore} {b r : Draf
   alone-is : settle s ≡ alone
   alone-is = settled-named s.rules s.part s.mode v (named-mode w.stage t.held (waiting w.stage.mode e))
 
-  pub alone-kept : Kept text out' opens store' r alone
+  pub alone-kept : Kept text out' opens starts' lens' heads' nexts' r alone
   alone-kept =
       let d : w.stage.depth ≡ levels (put s.part v none) = deep-levels s.part w.stage.depth t.held.deep ∙ inv (put-levels s.part v none) in
       record {
         built =
-            subst (Built text out' opens store' r (tables_of s.rules) (put s.part v none)) d
+            subst (Built text out' opens starts' lens' heads' nexts' r (tables_of s.rules) (put s.part v none)) d
             (a.builds (tables_of s.rules) s.part (built-at w.stage t.held k) (nodes-low w.stage t.held (waiting w.stage.mode e)));
         start = k.start;
         behind = k.behind ∙ inv a.from_stays;

@@ -20,17 +20,16 @@ use Rattle.drafts.specs.declared.Draft.{Draft}
 use Rattle.building.specs.Built.{Built, Nested, Argued, Closed}
 use Rattle.reader.specs.Effect.{Stays, Effect, stays, argues, closes, stops, effect}
 use Rattle.reader.specs.Kept.{tables_of, levels, Kept, Numbered, Sofar, Step}
-use Rattle.symbols.specs.declared.NameStore.{NameStore}
 
 -- What stays
 
-same_kept : {text out opens : List ℕ} {store : NameStore} {b : Draft} {cs : List Rule} {p : Part} (m m' : Mode) → Kept text out opens store b (state cs p m) → Kept text out opens store b (state cs p m')
+same_kept : {text out opens starts lens heads nexts : List ℕ} {b : Draft} {cs : List Rule} {p : Part} (m m' : Mode) → Kept text out opens starts lens heads nexts b (state cs p m) → Kept text out opens starts lens heads nexts b (state cs p m')
 same_kept m m' k = record { built = k.built; start = k.start; behind = k.behind; done = k.done }
 
-start-low : {text out opens : List ℕ} {store : NameStore} {b : Draft} {s : State} (k : Kept text out opens store b s) → k.start ≤ length out
+start-low : {text out opens starts lens heads nexts : List ℕ} {b : Draft} {s : State} (k : Kept text out opens starts lens heads nexts b s) → k.start ≤ length out
 start-low k = omega (arith, k.behind, k.built.drafted.low, k.built.drafted.long)
 
-pub kept-sofar : {text out opens : List ℕ} {store : NameStore} {b : Draft} {s : State} → Kept text out opens store b s → Sofar text out opens store b s
+pub kept-sofar : {text out opens starts lens heads nexts : List ℕ} {b : Draft} {s : State} → Kept text out opens starts lens heads nexts b s → Sofar text out opens starts lens heads nexts b s
 kept-sofar {out = out} k = record { kept = λ l. k; grown = omega (arith, k.behind, ap length k.done, length-take-le k.start out (start-low k)) }
 
 -- the piece that the program has found
@@ -40,22 +39,22 @@ step-piece {text} {at} {s = s} g p r t e f =
     let q : t.piece ≡ p = cc in
     subst (λ (x : Piece). judge s at x ≡ going _) q t.judged
 
-stays-kept : {text out opens : List ℕ} {store : NameStore} {b : Draft} {s s' : State} (t : Token) → Stays t → Effect t s s' → Kept text out opens store b s → Kept text out opens store b s'
+stays-kept : {text out opens starts lens heads nexts : List ℕ} {b : Draft} {s s' : State} (t : Token) → Stays t → Effect t s s' → Kept text out opens starts lens heads nexts b s → Kept text out opens starts lens heads nexts b s'
 stays-kept t h (stays {m = m} {m'} x) k = same_kept m m' k
 stays-kept t h (argues l) k = absurd h
 stays-kept t h (closes f) k = absurd h
 stays-kept t h stops k = absurd h
 
-pub token-stays : {text out opens : List ℕ} {store : NameStore} {b : Draft} {at depth n v : ℕ} {found : Found} {s s' : State} (g : Found) (t : Token) (r : List ℕ) → Kept text out opens store b s →
-    Step text at depth n v found s s' → found ≡ g → front_at text at g ≡ front (token t) r → Stays t → Sofar text out opens store b s'
+pub token-stays : {text out opens starts lens heads nexts : List ℕ} {b : Draft} {at depth n v : ℕ} {found : Found} {s s' : State} (g : Found) (t : Token) (r : List ℕ) → Kept text out opens starts lens heads nexts b s →
+    Step text at depth n v found s s' → found ≡ g → front_at text at g ≡ front (token t) r → Stays t → Sofar text out opens starts lens heads nexts b s'
 token-stays {at = at} {s = s} {s'} g t r k x e f h = kept-sofar (stays-kept t h (effect s s' t at x.settled (step-piece g (token t) r x e f)) k)
 
-pub gap_stays : {text out opens : List ℕ} {store : NameStore} {b : Draft} {at depth n v : ℕ} {found : Found} {s s' : State} (g : Found) (p : Piece) (r : List ℕ) → Kept text out opens store b s →
-    Step text at depth n v found s s' → found ≡ g → front_at text at g ≡ front p r → judge s at p ≡ going (settle s) → Sofar text out opens store b s'
-gap_stays {text} {out} {opens} {store} {b} {at} {s = s} {s'} g p r k x e f j =
+pub gap_stays : {text out opens starts lens heads nexts : List ℕ} {b : Draft} {at depth n v : ℕ} {found : Found} {s s' : State} (g : Found) (p : Piece) (r : List ℕ) → Kept text out opens starts lens heads nexts b s →
+    Step text at depth n v found s s' → found ≡ g → front_at text at g ≡ front p r → judge s at p ≡ going (settle s) → Sofar text out opens starts lens heads nexts b s'
+gap_stays {text} {out} {opens} {starts} {lens} {heads} {nexts} {b} {at} {s = s} {s'} g p r k x e f j =
     let h : going (settle s) ≡ going s' = inv j ∙ step-piece g p r x e f in
     let q : settle s ≡ s' = cc in
-    kept-sofar (subst (Kept text out opens store b) (inv x.settled ∙ q) k)
+    kept-sofar (subst (Kept text out opens starts lens heads nexts b) (inv x.settled ∙ q) k)
 
 no-opening : {s s' : State} → Effect opening s s' → ⊥
 no-opening (stays h) = h
@@ -71,29 +70,32 @@ nothing_never {text} {at} x e = let h : front x.piece x.rest ≡ unexpected = in
 
 -- A variable
 
-variable-nested : {text out opens : List ℕ} {store : NameStore} {b : Draft} {s s' : State} (w : List ℕ) (depth : ℕ) → Effect (variable w) s s' → depth ≡ levels s.part → SmallState s → Kept text out opens store b s →
+variable-nested : {text out opens starts lens heads nexts : List ℕ} {b : Draft} {s s' : State} (w : List ℕ) (depth : ℕ) → Effect (variable w) s s' → depth ≡ levels s.part → SmallState s → Kept text out opens starts lens heads nexts b s →
     Nested out opens b depth 255
 variable-nested w depth (stays h) e c k = absurd h
-variable-nested {text} {out} {opens} {store} {b} w depth (argues {cs = cs} {q = q} {u = u} {d = d} l) e c k =
+variable-nested {text} {out} {opens} {starts} {lens} {heads} {nexts} {b} w depth (argues {cs = cs} {q = q} {u = u} {d = d} l) e c k =
     record {
       text = text;
-      store = store;
+      starts = starts;
+      lens = lens;
+      heads = heads;
+      nexts = nexts;
       base = tables_of cs;
       part = inside q u d;
-      built = subst (Built text out opens store b (tables_of cs) (inside q u d)) (inv e) k.built;
+      built = subst (Built text out opens starts lens heads nexts b (tables_of cs) (inside q u d)) (inv e) k.built;
       small = c.part;
       count = l;
       deep = omega (arith, e);
     }
 
-variable-kept : {text out out' opens : List ℕ} {store : NameStore} {b r : Draft} {s s' : State} (w : List ℕ) (depth v : ℕ) → Effect (variable w) s s' → depth ≡ levels s.part → v ≡ variable_number (variables s.part) w →
-    Argued out out' opens b depth v r → Kept text out opens store b s → Kept text out' opens store r s'
+variable-kept : {text out out' opens starts lens heads nexts : List ℕ} {b r : Draft} {s s' : State} (w : List ℕ) (depth v : ℕ) → Effect (variable w) s s' → depth ≡ levels s.part → v ≡ variable_number (variables s.part) w →
+    Argued out out' opens b depth v r → Kept text out opens starts lens heads nexts b s → Kept text out' opens starts lens heads nexts r s'
 variable-kept w depth v (stays h) e z a k = absurd h
-variable-kept {text} {out} {out'} {opens} {store} {b} {r} w depth v (argues {cs = cs} {q = q} {u = u} {d = d} l) e z a k =
+variable-kept {text} {out} {out'} {opens} {starts} {lens} {heads} {nexts} {b} {r} w depth v (argues {cs = cs} {q = q} {u = u} {d = d} l) e z a k =
     record {
       built =
-          subst (Built text out' opens store r (tables_of cs) (inside q u (and_variable d w))) e
-          (a.builds text store (tables_of cs) q u w d (subst (Built text out opens store b (tables_of cs) (inside q u d)) (inv e) k.built) l z);
+          subst (Built text out' opens starts lens heads nexts r (tables_of cs) (inside q u (and_variable d w))) e
+          (a.builds text starts lens heads nexts (tables_of cs) q u w d (subst (Built text out opens starts lens heads nexts b (tables_of cs) (inside q u d)) (inv e) k.built) l z);
       start = k.start;
       behind = k.behind ∙ inv a.from_stays;
       done = a.kept k.start (omega (arith, k.behind)) ∙ k.done;
@@ -103,10 +105,10 @@ module _ {text : List ℕ} {at depth n v end : ℕ} {found : Found} {s s' : Stat
   variable-effect : Effect (variable (Found.part text at end)) s s'
   variable-effect = effect s s' (variable (Found.part text at end)) at x.settled (step-piece (F.Variable end) (token (variable (Found.part text at end))) (drop end text) x e refl)
 
-  pub argument-nested : {out opens : List ℕ} {store : NameStore} {b : Draft} → Kept text out opens store b s → Nested out opens b depth 255
+  pub argument-nested : {out opens starts lens heads nexts : List ℕ} {b : Draft} → Kept text out opens starts lens heads nexts b s → Nested out opens b depth 255
   argument-nested k = variable-nested (Found.part text at end) depth variable-effect x.depth_is x.small k
 
-  pub argument-sofar : {out out' opens : List ℕ} {store : NameStore} {b r : Draft} → Argued out out' opens b depth v r → Kept text out opens store b s → Sofar text out' opens store r s'
+  pub argument-sofar : {out out' opens starts lens heads nexts : List ℕ} {b r : Draft} → Argued out out' opens b depth v r → Kept text out opens starts lens heads nexts b s → Sofar text out' opens starts lens heads nexts r s'
   argument-sofar a k =
       kept-sofar (variable-kept (Found.part text at end) depth v variable-effect x.depth_is (subst (λ (f : Found). Numbered text at f v s) e x.numbered) a k)
 
@@ -116,30 +118,33 @@ pub put-levels : (q : Part) (u : List ℕ) (own : _) → levels (put q u own) �
 put-levels (formulas fs) u own = refl
 put-levels (inside p v d) u own = refl
 
-bracket-nested : {text out opens : List ℕ} {store : NameStore} {b : Draft} {s s' : State} (depth : ℕ) → Effect closing s s' → depth ≡ levels s.part → SmallState s → Kept text out opens store b s →
+bracket-nested : {text out opens starts lens heads nexts : List ℕ} {b : Draft} {s s' : State} (depth : ℕ) → Effect closing s s' → depth ≡ levels s.part → SmallState s → Kept text out opens starts lens heads nexts b s →
     Nested out opens b depth 256
 bracket-nested depth (stays h) e c k = absurd h
-bracket-nested {text} {out} {opens} {store} {b} depth (closes {cs} {q} {u} {d} f) e c k =
+bracket-nested {text} {out} {opens} {starts} {lens} {heads} {nexts} {b} depth (closes {cs} {q} {u} {d} f) e c k =
     record {
       text = text;
-      store = store;
+      starts = starts;
+      lens = lens;
+      heads = heads;
+      nexts = nexts;
       base = tables_of cs;
       part = inside q u d;
-      built = subst (Built text out opens store b (tables_of cs) (inside q u d)) (inv e) k.built;
+      built = subst (Built text out opens starts lens heads nexts b (tables_of cs) (inside q u d)) (inv e) k.built;
       small = c.part;
       count = c.count;
       deep = omega (arith, e);
     }
 
-bracket-kept : {text out out' opens : List ℕ} {store : NameStore} {b : Draft} {s s' : State} (depth : ℕ) → Effect closing s s' → depth ≡ levels s.part → SmallState s → Closed out out' opens b depth →
-    Kept text out opens store b s → Kept text out' opens store b s'
+bracket-kept : {text out out' opens starts lens heads nexts : List ℕ} {b : Draft} {s s' : State} (depth : ℕ) → Effect closing s s' → depth ≡ levels s.part → SmallState s → Closed out out' opens b depth →
+    Kept text out opens starts lens heads nexts b s → Kept text out' opens starts lens heads nexts b s'
 bracket-kept depth (stays h) e c a k = absurd h
-bracket-kept {text} {out} {out'} {opens} {store} {b} depth (closes {cs} {q} {u} {d} f) e c a k =
+bracket-kept {text} {out} {out'} {opens} {starts} {lens} {heads} {nexts} {b} depth (closes {cs} {q} {u} {d} f) e c a k =
     let z : depth - 1 ≡ levels (put q u (terms_of d none)) = omega (arith, e, put-levels q u (terms_of d none)) in
     record {
       built =
-          subst (Built text out' opens store b (tables_of cs) (put q u (terms_of d none))) z
-          (a.builds text store (tables_of cs) q u d (subst (Built text out opens store b (tables_of cs) (inside q u d)) (inv e) k.built) c.count f);
+          subst (Built text out' opens starts lens heads nexts b (tables_of cs) (put q u (terms_of d none))) z
+          (a.builds text starts lens heads nexts (tables_of cs) q u d (subst (Built text out opens starts lens heads nexts b (tables_of cs) (inside q u d)) (inv e) k.built) c.count f);
       start = k.start;
       behind = k.behind;
       done = a.kept k.start (omega (arith, k.behind)) ∙ k.done;
@@ -149,15 +154,15 @@ module _ {text : List ℕ} {at depth n v : ℕ} {found : Found} {s s' : State} (
   closing-effect : Effect closing s s'
   closing-effect = effect s s' closing at x.settled (step-piece F.Closing (token closing) (drop (at + 1) text) x e refl)
 
-  pub closing-nested : {out opens : List ℕ} {store : NameStore} {b : Draft} → Kept text out opens store b s → Nested out opens b depth 256
+  pub closing-nested : {out opens starts lens heads nexts : List ℕ} {b : Draft} → Kept text out opens starts lens heads nexts b s → Nested out opens b depth 256
   closing-nested k = bracket-nested depth closing-effect x.depth_is x.small k
 
-  pub closing-sofar : {out out' opens : List ℕ} {store : NameStore} {b : Draft} → Closed out out' opens b depth → Kept text out opens store b s → Sofar text out' opens store b s'
+  pub closing-sofar : {out out' opens starts lens heads nexts : List ℕ} {b : Draft} → Closed out out' opens b depth → Kept text out opens starts lens heads nexts b s → Sofar text out' opens starts lens heads nexts b s'
   closing-sofar a k = kept-sofar (bracket-kept depth closing-effect x.depth_is x.small a k)
 
 -- a piece that adds nothing
-pub other-stays : {text out opens : List ℕ} {store : NameStore} {b : Draft} {at depth n v : ℕ} {s s' : State} (found : Found) → ((end : ℕ) → found ≡ F.Variable end → ⊥) → (found ≡ F.Closing → ⊥) → (found ≡ F.Stop → ⊥) →
-    Kept text out opens store b s → Step text at depth n v found s s' → Sofar text out opens store b s'
+pub other-stays : {text out opens starts lens heads nexts : List ℕ} {b : Draft} {at depth n v : ℕ} {s s' : State} (found : Found) → ((end : ℕ) → found ≡ F.Variable end → ⊥) → (found ≡ F.Closing → ⊥) → (found ≡ F.Stop → ⊥) →
+    Kept text out opens starts lens heads nexts b s → Step text at depth n v found s s' → Sofar text out opens starts lens heads nexts b s'
 other-stays (F.Name end) q r t k x = token-stays _ _ _ k x refl refl tt
 other-stays (F.Variable end) q r t k x = absurd (q end refl)
 other-stays F.Space q r t k x = gap_stays _ _ _ k x refl refl refl

@@ -25,7 +25,6 @@ use Rattle.building.proofs.Arguments.{len_most}
 use Rattle.reader.specs.Effect.{Effect, stays, stops, effect}
 use Rattle.reader.specs.Kept.{tables_of, done_bytes, Kept, Sofar, Step, ended}
 use Rattle.reader.proofs.Stepping.{step-piece}
-use Rattle.symbols.specs.declared.NameStore.{NameStore}
 
 -- The clause record
 
@@ -59,8 +58,8 @@ same_sections b Constant = refl
 same_sections b Compound = refl
 same_sections b Predicate = refl
 
-module _ {text out opens : List ℕ} {store : NameStore} {b : Draft} {cs : List Rule} {f : Formula} {fs : List Formula} {m : Mode} (m' : Mode) (n : ℕ) (count : n ≡ suc (length fs)) (c : SmallState (state cs (formulas (f ∷ fs)) m))
-    (k : Kept text out opens store b (state cs (formulas (f ∷ fs)) m)) where
+module _ {text out opens starts lens heads nexts : List ℕ} {b : Draft} {cs : List Rule} {f : Formula} {fs : List Formula} {m : Mode} (m' : Mode) (n : ℕ) (count : n ≡ suc (length fs)) (c : SmallState (state cs (formulas (f ∷ fs)) m))
+    (k : Kept text out opens starts lens heads nexts b (state cs (formulas (f ∷ fs)) m)) where
   abbrev rule : Rule
   rule = rule_of f fs []
 
@@ -81,7 +80,7 @@ module _ {text out opens : List ℕ} {store : NameStore} {b : Draft} {cs : List 
   out_long : length out' ≡ length out
   out_long = length-set (set out (b.from - 2) 5) (b.from - 1) (n - 1) ∙ length-set out (b.from - 2) 5
 
-  rule-kept : (ended b).from ≤ 32769 → Kept text out' opens store (ended b) (state (rule ∷ cs) (formulas []) m')
+  rule-kept : (ended b).from ≤ 32769 → Kept text out' opens starts lens heads nexts (ended b) (state (rule ∷ cs) (formulas []) m')
   rule-kept l =
       record {
         built =
@@ -91,8 +90,8 @@ module _ {text out opens : List ℕ} {store : NameStore} {b : Draft} {cs : List 
                     bytes = refl;
                     tables =
                         λ j.
-                        subst (λ (x : Section). Holds text store x (after (tables_of cs) (rule_spots rule) (sort_of_kind j))) (same_sections b j)
-                        (subst (λ (e : List Spot). Holds text store (section_of b j) (after (tables_of cs) e (sort_of_kind j))) (stop-drafts f fs) (k.built.drafted.tables j));
+                        subst (λ (x : Section). Holds text starts lens heads nexts x (after (tables_of cs) (rule_spots rule) (sort_of_kind j))) (same_sections b j)
+                        (subst (λ (e : List Spot). Holds text starts lens heads nexts (section_of b j) (after (tables_of cs) e (sort_of_kind j))) (stop-drafts f fs) (k.built.drafted.tables j));
                     constants_few = omega (arith, k.built.drafted.constants_few);
                     compounds_few = omega (arith, k.built.drafted.compounds_few);
                     predicates_few = omega (arith, k.built.drafted.predicates_few);
@@ -108,7 +107,7 @@ module _ {text out opens : List ℕ} {store : NameStore} {b : Draft} {cs : List 
         done = front_bytes;
       }
 
-  stopped : Sofar text out' opens store (ended b) (state (rule ∷ cs) (formulas []) m')
+  stopped : Sofar text out' opens starts lens heads nexts (ended b) (state (rule ∷ cs) (formulas []) m')
   stopped =
       record {
         kept = rule-kept;
@@ -124,7 +123,7 @@ pub record Room (out : List ℕ) (b : Draft) (n : ℕ) : Type 0 where
   pub low : b.from ≤ 32769
   pub short : b.len ≤ 1024
 
-stop-room : {text out opens : List ℕ} {store : NameStore} {b : Draft} {s s' : State} (n : ℕ) → Effect stop s s' → n ≡ root_count s.part → SmallState s → Kept text out opens store b s → Room out b n
+stop-room : {text out opens starts lens heads nexts : List ℕ} {b : Draft} {s s' : State} (n : ℕ) → Effect stop s s' → n ≡ root_count s.part → SmallState s → Kept text out opens starts lens heads nexts b s → Room out b n
 stop-room n (stays h) e c k = absurd h
 stop-room n (stops {f = f} {fs}) e c k =
     record {
@@ -136,8 +135,8 @@ stop-room n (stops {f = f} {fs}) e c k =
       short = omega (arith, len_most 256 k.built c.count);
     }
 
-stop-kept : {text out opens : List ℕ} {store : NameStore} {b : Draft} {s s' : State} (n : ℕ) → Effect stop s s' → n ≡ root_count s.part → SmallState s → Kept text out opens store b s →
-    Sofar text (headed out b.from n) opens store (ended b) s'
+stop-kept : {text out opens starts lens heads nexts : List ℕ} {b : Draft} {s s' : State} (n : ℕ) → Effect stop s s' → n ≡ root_count s.part → SmallState s → Kept text out opens starts lens heads nexts b s →
+    Sofar text (headed out b.from n) opens starts lens heads nexts (ended b) s'
 stop-kept n (stays h) e c k = absurd h
 stop-kept n (stops {m' = m'}) e c k = stopped m' n e c k
 
@@ -145,10 +144,10 @@ module _ {text : List ℕ} {at depth n v : ℕ} {found : Found} {s s' : State} (
   stop-effect : Effect stop s s'
   stop-effect = effect s s' stop at x.settled (step-piece F.Stop (token stop) (drop (at + 1) text) x e refl)
 
-  pub finish-room : {out opens : List ℕ} {store : NameStore} {b : Draft} → Kept text out opens store b s → Room out b n
+  pub finish-room : {out opens starts lens heads nexts : List ℕ} {b : Draft} → Kept text out opens starts lens heads nexts b s → Room out b n
   finish-room k = stop-room n stop-effect x.count_is x.small k
 
-  pub finish-sofar : {out out₁ opens : List ℕ} {store : NameStore} {b r : Draft} → out₁ ≡ headed out b.from n → r ≡ ended b → Kept text out opens store b s → Sofar text out₁ opens store r s'
-  finish-sofar {out} {out₁} {opens} {store} {b} {r} p q k =
-      subst (λ (d : Draft). Sofar text out₁ opens store d s') (inv q)
-      (subst (λ (o : List ℕ). Sofar text o opens store (ended b) s') (inv p) (stop-kept n stop-effect x.count_is x.small k))
+  pub finish-sofar : {out out₁ opens starts lens heads nexts : List ℕ} {b r : Draft} → out₁ ≡ headed out b.from n → r ≡ ended b → Kept text out opens starts lens heads nexts b s → Sofar text out₁ opens starts lens heads nexts r s'
+  finish-sofar {out} {out₁} {opens} {starts} {lens} {heads} {nexts} {b} {r} p q k =
+      subst (λ (d : Draft). Sofar text out₁ opens starts lens heads nexts d s') (inv q)
+      (subst (λ (o : List ℕ). Sofar text o opens starts lens heads nexts (ended b) s') (inv p) (stop-kept n stop-effect x.count_is x.small k))

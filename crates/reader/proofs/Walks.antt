@@ -36,7 +36,6 @@ use Rattle.reader.specs.Effect.{Effect, stays, argues, closes, stops, effect}
 use Rattle.reader.specs.Kept.{tables_of, done_bytes, Numbered, Sofar, Turning, BuiltOn}
 use Rattle.pieces.specs.Found.{end_of}
 use Rattle.reader.specs.Walking.{starting, ends, whole, Ends, Grown, Going}
-use Rattle.symbols.specs.declared.NameStore.{NameStore}
 
 -- Rules only grow
 
@@ -75,8 +74,8 @@ piece-grows s s' at (token stop) e = token-grows s s' at stop refl e
 piece-grows s s' at (blank b) e = gap_grows s s' e
 piece-grows s s' at (comment c) e = gap_grows s s' e
 
-pub over-grown : (text out opens : List ℕ) (store : NameStore) (w : Turn) → 32769 < w.draft.from → Grown text out out opens opens store store w w.draft
-over-grown text out opens store w l =
+pub over-grown : (text out opens starts lens heads nexts : List ℕ) (w : Turn) → 32769 < w.draft.from → Grown text out out opens opens starts lens heads nexts starts lens heads nexts w w.draft
+over-grown text out opens starts lens heads nexts w l =
     record {
       sofar =
           λ at s s' h t.
@@ -86,9 +85,9 @@ over-grown text out opens store w l =
           };
     }
 
-pub built-grown : (text out out' opens opens' : List ℕ) (store store' : NameStore) (w : Turn) (r : Draft) → w.draft.from ≤ 32769 →
-    BuiltOn text out out' opens opens' store store' w r → Grown text out out' opens opens' store store' w r
-built-grown text out out' opens opens' store store' w r l b = record { sofar = λ at s s' h t. b.sofar at s s' (h.kept l) t }
+pub built-grown : (text out out' opens opens' starts lens heads nexts starts' lens' heads' nexts' : List ℕ) (w : Turn) (r : Draft) → w.draft.from ≤ 32769 →
+    BuiltOn text out out' opens opens' starts lens heads nexts starts' lens' heads' nexts' w r → Grown text out out' opens opens' starts lens heads nexts starts' lens' heads' nexts' w r
+built-grown text out out' opens opens' starts lens heads nexts starts' lens' heads' nexts' w r l b = record { sofar = λ at s s' h t. b.sofar at s s' (h.kept l) t }
 
 -- Health
 
@@ -144,7 +143,7 @@ some_left zero s at l h f = absurd (omega arith)
 some_left (suc k) s at [] h f = absurd (omega arith)
 some_left (suc k) s at (b ∷ l) h f = let z : k ≡ suc k - 1 = omega arith in ap (λ (n : ℕ). from_front s at (front_of (b ∷ l)) (walk n)) z
 
-module _ {text counts vars out opens : List ℕ} {store : NameStore} {c : Stage} {b : Draft} {at : ℕ} (g : Going text counts vars out opens store c b at) (l : at < length text) (found : Found) (shows : Shows text at found) where
+module _ {text counts vars out opens starts lens heads nexts : List ℕ} {c : Stage} {b : Draft} {at : ℕ} (g : Going text counts vars out opens starts lens heads nexts c b at) (l : at < length text) (found : Found) (shows : Shows text at found) where
   goes_on : from_front g.now at (front_at text at found) (walk (g.fuel - 1)) ≡ whole text
   goes_on =
       ap (λ (f : Front.Front). from_front g.now at f (walk (g.fuel - 1))) shows.says
@@ -165,8 +164,8 @@ module _ {text counts vars out opens : List ℕ} {store : NameStore} {c : Stage}
     turning v n few =
         record { counts = counts; vars = vars; held = g.held; piece = goes.piece; rest = goes.rest; shown = goes.shown; judged = goes.judged; numbered = n counts c g.now g.held refl; few = few }
 
-    pub again : {out' opens' : List ℕ} {store' : NameStore} {b' : Draft} (end : ℕ) → end ≡ end_of at found → Sofar text out' opens' store' b' goes.after →
-        Going text counts' vars' out' opens' store' c' b' end
+    pub again : {out' opens' starts' lens' heads' nexts' : List ℕ} {b' : Draft} (end : ℕ) → end ≡ end_of at found → Sofar text out' opens' starts' lens' heads' nexts' b' goes.after →
+        Going text counts' vars' out' opens' starts' lens' heads' nexts' c' b' end
     again end q h =
         let a = piece-end text at found goes.piece goes.rest shows.inside goes.shown in
         record {
@@ -195,11 +194,11 @@ none_left zero s at l h = refl
 none_left (suc k) s at [] h = refl
 none_left (suc k) s at (b ∷ l) h = absurd (omega arith)
 
-module _ {text counts vars out opens : List ℕ} {store : NameStore} {c : Stage} {b : Draft} {at : ℕ} (g : Going text counts vars out opens store c b at) (l : length text ≤ at) where
+module _ {text counts vars out opens starts lens heads nexts : List ℕ} {c : Stage} {b : Draft} {at : ℕ} (g : Going text counts vars out opens starts lens heads nexts c b at) (l : length text ≤ at) where
   at_end : whole text ≡ ended g.now.rules g.now.mode at
   at_end = inv g.left ∙ none_left g.fuel g.now at (drop at text) (omega (arith, length-drop at text, l))
 
-  ended_with : (m : M.Mode) → g.now.mode ≡ mode_of text m c.at c.len → Ends text out opens store (ends m b at)
+  ended_with : (m : M.Mode) → g.now.mode ≡ mode_of text m c.at c.len → Ends text out opens starts lens heads nexts (ends m b at)
   ended_with Between e =
       let x : whole text ≡ ended g.now.rules between at = at_end ∙ ap (λ (m : Mode). ended g.now.rules m at) e in
       let p : g.now.part ≡ formulas [] = subst (Healthy g.now.part) e g.healthy in
@@ -208,27 +207,27 @@ module _ {text counts vars out opens : List ℕ} {store : NameStore} {c : Stage}
             record {
               rules = g.now.rules;
               reads = x;
-              sofar = subst (λ (y : Part). Sofar text out opens store b (state g.now.rules y between)) p (subst (λ (y : Mode). Sofar text out opens store b (state g.now.rules g.now.part y)) e g.sofar);
+              sofar = subst (λ (y : Part). Sofar text out opens starts lens heads nexts b (state g.now.rules y between)) p (subst (λ (y : Mode). Sofar text out opens starts lens heads nexts b (state g.now.rules g.now.part y)) e g.sofar);
             };
       }
   ended_with Expects e = record { ends_with = at_end ∙ ap (λ (m : Mode). ended g.now.rules m at) e }
   ended_with Named e = record { ends_with = at_end ∙ ap (λ (m : Mode). ended g.now.rules m at) e }
   ended_with Complete e = record { ends_with = at_end ∙ ap (λ (m : Mode). ended g.now.rules m at) e }
 
-  pub walk_ends : (r : Result Draft Refusal) → r ≡ ends c.mode b at → Ends text out opens store r
-  walk_ends r q = subst (Ends text out opens store) (inv q) (ended_with c.mode g.held.mode_is)
+  pub walk_ends : (r : Result Draft Refusal) → r ≡ ends c.mode b at → Ends text out opens starts lens heads nexts r
+  walk_ends r q = subst (Ends text out opens starts lens heads nexts) (inv q) (ended_with c.mode g.held.mode_is)
 
-pub bad-walk : (text out opens : List ℕ) (store : NameStore) (k : Refusal) → whole text ≡ refused (number k.code) k.place → Ends text out opens store (Err k)
-bad-walk text out opens store k e = record { ends_with = e }
+pub bad-walk : (text out opens starts lens heads nexts : List ℕ) (k : Refusal) → whole text ≡ refused (number k.code) k.place → Ends text out opens starts lens heads nexts (Err k)
+bad-walk text out opens starts lens heads nexts k e = record { ends_with = e }
 
 -- The start
 
 no-variables : (text vars : List ℕ) → Variables text vars [] 0
 no-variables text vars = record { count = refl; few = omega arith; inside = λ i (l : i < 0). absurd (omega arith); named = λ i (l : i < 0). absurd (omega arith) }
 
-pub begins : (text counts vars out opens : List ℕ) (store : NameStore) (c : Stage) (b : Draft) → c ≡ starting → length counts ≡ 256 → length vars ≡ 128 → length text ≤ 65536 → Sofar text out opens store b start →
-    Going text counts vars out opens store c b 0
-begins text counts vars out opens store c b e p q l h =
+pub begins : (text counts vars out opens starts lens heads nexts : List ℕ) (c : Stage) (b : Draft) → c ≡ starting → length counts ≡ 256 → length vars ≡ 128 → length text ≤ 65536 → Sofar text out opens starts lens heads nexts b start →
+    Going text counts vars out opens starts lens heads nexts c b 0
+begins text counts vars out opens starts lens heads nexts c b e p q l h =
     record {
       now = start;
       held =

@@ -19,7 +19,6 @@ use Rattle.drafts.specs.declared.Draft.{Draft}
 use Rattle.drafts.specs.Drafted.{Tables, after, bytes_of}
 use Rattle.building.specs.Built.{Built}
 use Rattle.reader.specs.declared.Turn.{Turn}
-use Rattle.symbols.specs.declared.NameStore.{NameStore}
 
 -- the names of rules, the last one first
 abbrev pub tables_of : List Rule → Tables
@@ -36,8 +35,8 @@ abbrev pub levels : Part → ℕ
 levels (formulas fs) = 0
 levels (inside p v d) = suc (levels p)
 
-pub record Kept (text out opens : List ℕ) (store : NameStore) (b : Draft) (s : State) : Type 0 where
-  pub built : Built text out opens store b (tables_of s.rules) s.part (levels s.part)
+pub record Kept (text out opens starts lens heads nexts : List ℕ) (b : Draft) (s : State) : Type 0 where
+  pub built : Built text out opens starts lens heads nexts b (tables_of s.rules) s.part (levels s.part)
   pub start : ℕ
   pub behind : start + 2 ≡ b.from
   pub done : take start out ≡ done_bytes s.rules
@@ -58,8 +57,8 @@ Numbered text at F.HalfStop v s = Unit {0}
 Numbered text at F.Nothing v s = Unit {0}
 
 -- what is held of the book as long as it can still be of 32,768 bytes; and how long it is at least
-pub record Sofar (text out opens : List ℕ) (store : NameStore) (b : Draft) (s : State) : Type 0 where
-  pub kept : b.from ≤ 32769 → Kept text out opens store b s
+pub record Sofar (text out opens starts lens heads nexts : List ℕ) (b : Draft) (s : State) : Type 0 where
+  pub kept : b.from ≤ 32769 → Kept text out opens starts lens heads nexts b s
   pub grown : b.from ≤ length (done_bytes s.rules) + 2
 
 -- a piece that is no opening bracket leads from one state, where no name waits for its bracket, to another
@@ -78,16 +77,19 @@ pub record Step (text : List ℕ) (at depth n v : ℕ) (found : Found) (s s' : S
 -- somewhere there is such a step
 pub record Steps (out opens : List ℕ) (b : Draft) (depth n v : ℕ) (found : Found) : Type 0 where
   pub text : List ℕ
-  pub store : NameStore
+  pub starts : List ℕ
+  pub lens : List ℕ
+  pub heads : List ℕ
+  pub nexts : List ℕ
   pub at : ℕ
   pub before : State
   pub after : State
-  pub kept : Kept text out opens store b before
+  pub kept : Kept text out opens starts lens heads nexts b before
   pub step : Step text at depth n v found before after
 
 pub record Stepped (out out' opens : List ℕ) (b : Draft) (depth n v : ℕ) (found : Found) (r : Draft) : Type 0 where
-  pub sofar : (text : List ℕ) (store : NameStore) (at : ℕ) (s s' : State) → Kept text out opens store b s → Step text at depth n v found s s' →
-      Sofar text out' opens store r s'
+  pub sofar : (text starts lens heads nexts : List ℕ) (at : ℕ) (s s' : State) → Kept text out opens starts lens heads nexts b s → Step text at depth n v found s s' →
+      Sofar text out' opens starts lens heads nexts r s'
 
 -- behind a rule that is finished
 abbrev pub ended : Draft → Draft
@@ -112,12 +114,12 @@ pub record Turning (text : List ℕ) (at : ℕ) (w : Turn) (s s' : State) : Type
   pub numbered : Numbered text at w.found w.v s
   pub few : w.v < 65536
 
-pub record Turns (text out opens : List ℕ) (store : NameStore) (w : Turn) : Type 0 where
+pub record Turns (text out opens starts lens heads nexts : List ℕ) (w : Turn) : Type 0 where
   pub at : ℕ
   pub before : State
   pub after : State
-  pub kept : Kept text out opens store w.draft before
+  pub kept : Kept text out opens starts lens heads nexts w.draft before
   pub turning : Turning text at w before after
 
-pub record BuiltOn (text out out' opens opens' : List ℕ) (store store' : NameStore) (w : Turn) (r : Draft) : Type 0 where
-  pub sofar : (at : ℕ) (s s' : State) → Kept text out opens store w.draft s → Turning text at w s s' → Sofar text out' opens' store' r s'
+pub record BuiltOn (text out out' opens opens' starts lens heads nexts starts' lens' heads' nexts' : List ℕ) (w : Turn) (r : Draft) : Type 0 where
+  pub sofar : (at : ℕ) (s s' : State) → Kept text out opens starts lens heads nexts w.draft s → Turning text at w s s' → Sofar text out' opens' starts' lens' heads' nexts' r s'

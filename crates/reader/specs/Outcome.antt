@@ -12,7 +12,6 @@ use Rattle.drafts.specs.declared.Draft.{Draft}
 use Rattle.reader.specs.Kept.{done_bytes}
 use Rattle.reader.specs.Walking.{whole, Ends}
 use Rattle.reader.specs.Book.{done-book}
-use Rattle.symbols.specs.declared.NameStore.{NameStore}
 
 reading-whole : (text : List ℕ) → length text ≤ 65536 → reading text ≡ fitting (length text) (whole text)
 unfolding reading
@@ -22,11 +21,11 @@ book-length : (cs : List Rule) → length (encode_book (book (rules_of cs []))) 
 book-length cs = ap length (inv (done-book cs)) ∙ length-append (done_bytes cs) (7 ∷ [])
 
 -- a refusal is the definition's
-pub ends-refused : {text out opens : List ℕ} {store : NameStore} (r : Refusal) → length text ≤ 65536 → Ends text out opens store (Err r) → reading text ≡ refused (number r.code) r.place
+pub ends-refused : {text out opens starts lens heads nexts : List ℕ} (r : Refusal) → length text ≤ 65536 → Ends text out opens starts lens heads nexts (Err r) → reading text ≡ refused (number r.code) r.place
 ends-refused {text} r l e = reading-whole text l ∙ ap (fitting (length text)) e.ends_with
 
 -- "at the text's length for a finished book over 32,768 bytes"
-pub ends-long : {text out opens : List ℕ} {store : NameStore} {b : Draft} → length text ≤ 65536 → Ends text out opens store (Ok b) → 32769 < b.from → reading text ≡ refused 5 (length text)
+pub ends-long : {text out opens starts lens heads nexts : List ℕ} {b : Draft} → length text ≤ 65536 → Ends text out opens starts lens heads nexts (Ok b) → 32769 < b.from → reading text ≡ refused 5 (length text)
 ends-long {text} l e h =
     let r = e.ends_with in
     reading-whole text l
@@ -41,7 +40,7 @@ pub record HoldsBook (text out : List ℕ) (b : Draft) : Type 0 where
   pub behind : start + 2 ≡ b.from
   pub book_is : take start out ++ (7 ∷ []) ≡ encode_book (book rules)
 
-pub ends_read : {text out opens : List ℕ} {store : NameStore} {b : Draft} → length text ≤ 65536 → Ends text out opens store (Ok b) → b.from ≤ 32769 → HoldsBook text out b
+pub ends_read : {text out opens starts lens heads nexts : List ℕ} {b : Draft} → length text ≤ 65536 → Ends text out opens starts lens heads nexts (Ok b) → b.from ≤ 32769 → HoldsBook text out b
 ends_read {text} {out} l e h =
     let r = e.ends_with in
     let k = r.sofar.kept h in

@@ -8,19 +8,18 @@ use Rattle.drafts.specs.declared.Kind.TheVariants.{Constant, Compound, Predicate
 use Rattle.drafts.specs.Drafted.{section_of}
 use Rattle.building.specs.Built.{shut}
 use Rattle.reader.specs.Walking.{blank, Empty}
-use Rattle.symbols.specs.declared.NameStore.{NameStore}
 
 abbrev pub Zeros : List ℕ → Type 0
 Zeros l = (i : ℕ) → get_or l i 0 ≡ 0
 
-pub record Fresh (out opens : List ℕ) (store : NameStore) : Type 0 where
+pub record Fresh (out opens starts lens heads nexts : List ℕ) : Type 0 where
   pub out_long : length out ≡ 33800
   pub opens_long : length opens ≡ 256
-  pub starts_long : length store.starts ≡ 28160
-  pub lens_long : length store.lens ≡ 28160
-  pub heads_long : length store.heads ≡ 12288
-  pub nexts_long : length store.nexts ≡ 28160
-  pub heads_zero : Zeros store.heads
+  pub starts_long : length starts ≡ 28160
+  pub lens_long : length lens ≡ 28160
+  pub heads_long : length heads ≡ 12288
+  pub nexts_long : length nexts ≡ 28160
+  pub heads_zero : Zeros heads
 
 take-zero : (k : ℕ) (l : List ℕ) → Zeros l → Zeros (take k l)
 take-zero zero l h i = refl
@@ -46,11 +45,11 @@ empty-table text starts lens heads nexts z =
       chains = record { begins = λ h l. z h; goes_on = λ i (l : i < 0). absurd (omega arith) };
     }
 
-module _ (text out opens : List ℕ) (store : NameStore) (f : Fresh out opens store) where
-  empty_section : (k : Kind) → Holds text store (section_of blank k) []
+module _ (text out opens starts lens heads nexts : List ℕ) (f : Fresh out opens starts lens heads nexts) where
+  empty_section : (k : Kind) → Holds text starts lens heads nexts (section_of blank k) []
   empty_section Constant =
       record {
-        table = empty-table text _ _ _ _ (take-zero 4096 (drop 0 store.heads) (drop-zero 0 store.heads f.heads_zero));
+        table = empty-table text _ _ _ _ (take-zero 4096 (drop 0 heads) (drop-zero 0 heads f.heads_zero));
         starts_room = omega (arith, f.starts_long);
         lens_room = omega (arith, f.lens_long);
         heads_room = omega (arith, f.heads_long);
@@ -60,7 +59,7 @@ module _ (text out opens : List ℕ) (store : NameStore) (f : Fresh out opens st
       }
   empty_section Compound =
       record {
-        table = empty-table text _ _ _ _ (take-zero 4096 (drop 4096 store.heads) (drop-zero 4096 store.heads f.heads_zero));
+        table = empty-table text _ _ _ _ (take-zero 4096 (drop 4096 heads) (drop-zero 4096 heads f.heads_zero));
         starts_room = omega (arith, f.starts_long);
         lens_room = omega (arith, f.lens_long);
         heads_room = omega (arith, f.heads_long);
@@ -70,7 +69,7 @@ module _ (text out opens : List ℕ) (store : NameStore) (f : Fresh out opens st
       }
   empty_section Predicate =
       record {
-        table = empty-table text _ _ _ _ (take-zero 4096 (drop 8192 store.heads) (drop-zero 8192 store.heads f.heads_zero));
+        table = empty-table text _ _ _ _ (take-zero 4096 (drop 8192 heads) (drop-zero 8192 heads f.heads_zero));
         starts_room = omega (arith, f.starts_long);
         lens_room = omega (arith, f.lens_long);
         heads_room = omega (arith, f.heads_long);
@@ -79,7 +78,7 @@ module _ (text out opens : List ℕ) (store : NameStore) (f : Fresh out opens st
         short = omega (arith, f.starts_long);
       }
 
-  pub fresh-empty : Empty text out opens store
+  pub fresh-empty : Empty text out opens starts lens heads nexts
   fresh-empty =
       record {
         nothing =

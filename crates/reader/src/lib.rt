@@ -9,7 +9,6 @@ use building::{Work, alone, argument, close, finish, open};
 use drafts::Draft;
 use pieces::Found;
 use stages::{Mode, Stage, is_opening};
-use symbols::NameStore;
 
 pub mod walking; // one pass over a text
 
@@ -82,13 +81,16 @@ fn then(depth: usize, formulas: usize) -> usize
 // What a piece adds.
 pub fn build(
     text: &[u8],
-    store: &mut NameStore,
+    starts: &mut [u16],
+    lens: &mut [u8],
+    heads: &mut [u16],
+    nexts: &mut [u16],
     out: &mut [u8],
     opens: &mut [u16],
     w: Turn,
 ) -> Draft
-    requires { Turns text.now out.old opens.old store.old w }
-    ensures { BuiltOn text.now out.old out.new opens.old opens.new store.old store.new w result }
+    requires { Turns text.now out.old opens.old starts.old lens.old heads.old nexts.old w }
+    ensures { BuiltOn text.now out.old out.new opens.old opens.new starts.old lens.old heads.old nexts.old starts.new lens.new heads.new nexts.new w result }
 {
     let Turn {
         draft: b,
@@ -107,9 +109,9 @@ pub fn build(
         len: c.len,
     };
     if is_opening(found) {
-        return open(text, store, out, opens, work);
+        return open(text, starts, lens, heads, nexts, out, opens, work);
     }
-    let d = alone(text, store, out, opens, work);
+    let d = alone(text, starts, lens, heads, nexts, out, opens, work);
     let more = then(depth, c.formulas);
     add(out, opens, d, depth, more, found, v)
 }

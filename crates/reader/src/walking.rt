@@ -11,7 +11,6 @@ use drafts::Draft;
 use pieces::{Found, Refusal, end_of, piece_at, unexpected};
 use stages::variables::number;
 use stages::{Mode, Stage, turn};
-use symbols::NameStore;
 
 // The number of the variable at a place. It is 0 for another piece, since it is read beside `Found::Variable` alone: an `Option` would be taken apart there a second time, and be no plainer.
 fn number_of(text: &[u8], vars: &[u16], n: usize, at: usize, found: Found) -> usize
@@ -62,26 +61,38 @@ fn end(c: Stage, b: Draft, at: usize) -> Result<Draft, Refusal>
 }
 
 // What a piece adds, as long as the book can still be of 32,768 bytes.
-fn grow(text: &[u8], store: &mut NameStore, out: &mut [u8], opens: &mut [u16], w: Turn) -> Draft
-    requires { Grows text.now out.old opens.old store.old w }
-    ensures { Grown text.now out.old out.new opens.old opens.new store.old store.new w result }
+fn grow(
+    text: &[u8],
+    starts: &mut [u16],
+    lens: &mut [u8],
+    heads: &mut [u16],
+    nexts: &mut [u16],
+    out: &mut [u8],
+    opens: &mut [u16],
+    w: Turn,
+) -> Draft
+    requires { Grows text.now out.old opens.old starts.old lens.old heads.old nexts.old w }
+    ensures { Grown text.now out.old out.new opens.old opens.new starts.old lens.old heads.old nexts.old starts.new lens.new heads.new nexts.new w result }
 {
     let b = w.draft;
     if 32769 < b.from {
         return b;
     }
-    build(text, store, out, opens, w)
+    build(text, starts, lens, heads, nexts, out, opens, w)
 }
 
 // A text of at most 65,536 bytes.
 pub fn walk(
     text: &[u8],
-    store: &mut NameStore,
+    starts: &mut [u16],
+    lens: &mut [u8],
+    heads: &mut [u16],
+    nexts: &mut [u16],
     out: &mut [u8],
     opens: &mut [u16],
 ) -> Result<Draft, Refusal>
-    requires { (length text.now ≤ 65536) × Empty text.now out.old opens.old store.old }
-    ensures { Ends text.now out.new opens.new store.new result }
+    requires { (length text.now ≤ 65536) × Empty text.now out.old opens.old starts.old lens.old heads.old nexts.old }
+    ensures { Ends text.now out.new opens.new starts.new lens.new heads.new nexts.new result }
 {
     let mut counts = [0u16; 256];
     let mut vars = [0u16; 128];
@@ -94,7 +105,10 @@ pub fn walk(
         let next = turn(text, &mut counts, &mut vars, c, at, found)?;
         b = grow(
             text,
-            store,
+            starts,
+            lens,
+            heads,
+            nexts,
             out,
             opens,
             Turn {

@@ -24,7 +24,6 @@ use Rattle.reading.specs.Reader.{Outcome, fitting, reading}
 use Rattle.reading.proofs.ReadingLaws.{reading-sound}
 use Rattle.reading.proofs.Refusal.{refusal}
 use Rattle.nametable.specs.Table.{word}
-use Rattle.symbols.specs.declared.NameStore.{NameStore}
 use Rattle.symbols.specs.Sections.{Holds}
 use Rattle.drafts.specs.declared.Draft.{Draft}
 use Rattle.drafts.specs.declared.Kind.{Kind}
@@ -59,12 +58,9 @@ answers {text} {books} {lists} {books'} {lists'} e i = subst (λ (x : ReadText).
 zeros : (k : ℕ) → Zeros (replicate {A = ℕ} k 0)
 zeros k i = ap (λ (m : Memory). m i) (zeros-met k)
 
-abbrev empty_store : NameStore
-empty_store = record { starts = replicate {A = ℕ} 28160 0; lens = replicate {A = ℕ} 28160 0; heads = replicate {A = ℕ} 12288 0; nexts = replicate {A = ℕ} 28160 0 }
-
-pub fresh : (text : List ℕ) → Empty text (replicate {A = ℕ} 33800 0) (replicate {A = ℕ} 256 0) empty_store
+pub fresh : (text : List ℕ) → Empty text (replicate {A = ℕ} 33800 0) (replicate {A = ℕ} 256 0) (replicate {A = ℕ} 28160 0) (replicate {A = ℕ} 28160 0) (replicate {A = ℕ} 12288 0) (replicate {A = ℕ} 28160 0)
 fresh text =
-    fresh-empty text (replicate {A = ℕ} 33800 0) (replicate {A = ℕ} 256 0) empty_store
+    fresh-empty text (replicate {A = ℕ} 33800 0) (replicate {A = ℕ} 256 0) (replicate {A = ℕ} 28160 0) (replicate {A = ℕ} 28160 0) (replicate {A = ℕ} 12288 0) (replicate {A = ℕ} 28160 0)
     (record {
       out_long = length-replicate {A = ℕ} 33800 0;
       opens_long = length-replicate {A = ℕ} 256 0;
@@ -81,9 +77,9 @@ pub too_long : (text books lists : List ℕ) (r : ReadText) → 65536 < length t
 unfolding reading
 too_long text books lists r h e = answers e (is-refused text books lists 40 0 (rw (lt-ltb 65536 (length text) h) refl))
 
-module _ (text out : List ℕ) (store : NameStore) (e : Result Draft Refusal) (k : Refusal) (c : Came text out store e) (q : e ≡ Err k) where
+module _ (text out starts lens : List ℕ) (e : Result Draft Refusal) (k : Refusal) (c : Came text out starts lens e) (q : e ≡ Err k) where
   refused_as : reading text ≡ Reader.refused (number k.code) k.place
-  refused_as = ends-refused k c.short (subst (Ends text out c.opens store) q c.ends)
+  refused_as = ends-refused k c.short (subst (Ends text out c.opens starts lens c.heads c.nexts) q c.ends)
 
   pub refused-place : k.place ≤ 65536
   refused-place = omega (arith, refusal-low (refusal text (number k.code) k.place refused_as), c.short)
@@ -91,21 +87,21 @@ module _ (text out : List ℕ) (store : NameStore) (e : Result Draft Refusal) (k
   pub refused-is : (books lists : List ℕ) (code : ℕ) (r : ReadText) → code ≡ number k.code → r ≡ Outcome.refusal code k.place → Is text books lists r books lists
   refused-is books lists code r p f = answers (f ∙ ap (λ (n : ℕ). Outcome.refusal n k.place) p) (is-refused text books lists (number k.code) k.place refused_as)
 
-pub came-read : (text out : List ℕ) (store : NameStore) (e : Result Draft Refusal) (b : Draft) → e ≡ Ok b → Came text out store e → Came text out store (Ok b)
-came-read text out store e b q c = subst (Came text out store) q c
+pub came-read : (text out starts lens : List ℕ) (e : Result Draft Refusal) (b : Draft) → e ≡ Ok b → Came text out starts lens e → Came text out starts lens (Ok b)
+came-read text out starts lens e b q c = subst (Came text out starts lens) q c
 
-module _ (text out : List ℕ) (store : NameStore) (b : Draft) (c : Came text out store (Ok b)) where
+module _ (text out starts lens : List ℕ) (b : Draft) (c : Came text out starts lens (Ok b)) where
   pub long-is : (books lists : List ℕ) (r : ReadText) → 32769 < b.from → r ≡ Outcome.refusal 5 (length text) → Is text books lists r books lists
   long-is books lists r h f = answers f (is-refused text books lists 5 (length text) (ends-long c.short c.ends h))
 
   module _ (low : b.from ≤ 32769) where
-    abbrev rs : Rules text out c.opens store b
+    abbrev rs : Rules text out c.opens starts lens c.heads c.nexts b
     rs = c.ends.ends_with
 
     abbrev held : HoldsBook text out b
     held = ends_read c.short c.ends low
 
-    abbrev kept : Kept text out c.opens store b (state rs.rules (formulas []) between)
+    abbrev kept : Kept text out c.opens starts lens c.heads c.nexts b (state rs.rules (formulas []) between)
     kept = rs.sofar.kept low
 
     fitting-rules : (o : Outcome) (cs ds : List Rule) → o ≡ Reader.read cs → fitting (length text) o ≡ Reader.read ds → cs ≡ ds
@@ -128,9 +124,9 @@ module _ (text out : List ℕ) (store : NameStore) (b : Draft) (c : Came text ou
     pub end-start : 2 ≤ b.from
     end-start = omega (arith, held.behind)
 
-    section : (k : Kind) → Holds text store (section_of b k) (names held.rules (sort_of_kind k))
+    section : (k : Kind) → Holds text starts lens c.heads c.nexts (section_of b k) (names held.rules (sort_of_kind k))
     section k =
-        subst (Holds text store (section_of b k)) (tables-are rs.rules (sort_of_kind k) ∙ ap (λ (cs : List Rule). names cs (sort_of_kind k)) same-rules) (kept.built.drafted.tables k)
+        subst (Holds text starts lens c.heads c.nexts (section_of b k)) (tables-are rs.rules (sort_of_kind k) ∙ ap (λ (cs : List Rule). names cs (sort_of_kind k)) same-rules) (kept.built.drafted.tables k)
 
     constants_few : b.constants ≤ 11264
     constants_few = omega (arith, kept.built.drafted.constants_few, none_open, low)
@@ -141,7 +137,7 @@ module _ (text out : List ℕ) (store : NameStore) (b : Draft) (c : Came text ou
     predicates_few : b.predicates ≤ 8448
     predicates_few = omega (arith, kept.built.drafted.predicates_few, none_open, low)
 
-    named : Named text store.starts store.lens b
+    named : Named text starts lens b
     named =
         record {
           constants_few = constants_few;
@@ -165,7 +161,7 @@ module _ (text out : List ℕ) (store : NameStore) (b : Draft) (c : Came text ou
     pub stop-inside : b.from - 2 + 1 ≤ length (set out (b.from - 2) 7)
     stop-inside = omega (arith, length-set out (b.from - 2) 7, end-inside)
 
-    pub came-finished : Finished text store.starts store.lens (take (b.from - 2 + 1 - 0) (drop 0 (set out (b.from - 2) 7))) b
+    pub came-finished : Finished text starts lens (take (b.from - 2 + 1 - 0) (drop 0 (set out (b.from - 2) 7))) b
     came-finished =
         record {
           rules = held.rules;

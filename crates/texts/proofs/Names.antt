@@ -9,7 +9,6 @@ use borrow.Rule.Slice.PartMut.{put_mid}
 use Rattle.grammar.specs.Names.{Sort, Constant, Compound, Predicate, kind, entries, names, name_list}
 use Rattle.grammar.specs.Syntax.{Rule}
 use Rattle.nametable.specs.Table.{word}
-use Rattle.symbols.specs.declared.NameStore.{NameStore}
 use Rattle.symbols.specs.Sections.{part, Holds}
 use Rattle.symbols.specs.declared.Section.{Section}
 use Rattle.drafts.specs.declared.Draft.{Draft}
@@ -37,23 +36,23 @@ names-within text [] L (suc n) p q h = absurd (omega arith)
 names-within text (s ∷ S) [] (suc n) p q h = absurd (omega arith)
 names-within text (s ∷ S) (l ∷ L) (suc n) p q h = (h 0 (omega arith), names-within text S L n (omega arith) (omega arith) (λ i (k : i < n). h (suc i) (omega arith)))
 
-module _ {text : List ℕ} {store : NameStore} {c : Section} {ns : List (List ℕ)} (h : Holds text store c ns) (few : c.count ≤ c.room) where
+module _ {text starts lens heads nexts : List ℕ} {c : Section} {ns : List (List ℕ)} (h : Holds text starts lens heads nexts c ns) (few : c.count ≤ c.room) where
   long : (l : List ℕ) → c.from + c.room ≤ length l → c.count ≤ length (part c.from c.room l)
   long l r = omega (arith, few, length-take-le c.room (drop c.from l) (omega (arith, length-drop c.from l)))
 
   front : (l : List ℕ) → take c.count (part c.from c.room l) ≡ part c.from c.count l
   front l = take-take c.count c.room (drop c.from l) few
 
-  pub section_heard : heard text (part c.from c.count store.starts) (part c.from c.count store.lens) ≡ ns
+  pub section_heard : heard text (part c.from c.count starts) (part c.from c.count lens) ≡ ns
   section_heard =
-      ap₂ (heard text) (inv (front store.starts)) (inv (front store.lens))
-      ∙ names-heard text (part c.from c.room store.starts) (part c.from c.room store.lens) ns c.count h.table.entries.count (long store.starts h.starts_room) (long store.lens h.lens_room) h.table.entries.named
+      ap₂ (heard text) (inv (front starts)) (inv (front lens))
+      ∙ names-heard text (part c.from c.room starts) (part c.from c.room lens) ns c.count h.table.entries.count (long starts h.starts_room) (long lens h.lens_room) h.table.entries.named
 
-  pub section_within : Within text (part c.from c.count store.starts) (part c.from c.count store.lens)
+  pub section_within : Within text (part c.from c.count starts) (part c.from c.count lens)
   section_within =
-      subst (λ (x : List ℕ). Within text x (part c.from c.count store.lens)) (front store.starts)
-      (subst (Within text (take c.count (part c.from c.room store.starts))) (front store.lens)
-      (names-within text (part c.from c.room store.starts) (part c.from c.room store.lens) c.count (long store.starts h.starts_room) (long store.lens h.lens_room) h.table.entries.inside))
+      subst (λ (x : List ℕ). Within text x (part c.from c.count lens)) (front starts)
+      (subst (Within text (take c.count (part c.from c.room starts))) (front lens)
+      (names-within text (part c.from c.room starts) (part c.from c.room lens) c.count (long starts h.starts_room) (long lens h.lens_room) h.table.entries.inside))
 
 -- The slice of a table that is a section
 

@@ -6,7 +6,6 @@ use Rattle.grammar.specs.Syntax.{Rule}
 use Rattle.grammar.specs.Names.{book, name_list}
 use Rattle.reading.specs.Reader as Reader
 use Rattle.pieces.specs.declared.Refusal.{Refusal}
-use Rattle.symbols.specs.declared.NameStore.{NameStore}
 use Rattle.symbols.specs.Sections.{part}
 use Rattle.drafts.specs.declared.Draft.{Draft}
 use Rattle.listing.specs.Lists.{heard, noted, sizes, Within}
@@ -14,9 +13,11 @@ use Rattle.reader.specs.Walking.{Ends}
 use Rattle.readouts.specs.Clash.{arities}
 
 -- the pass has ended so
-pub record Came (text out : List ℕ) (store : NameStore) (e : Result Draft Refusal) : Type 0 where
+pub record Came (text out starts lens : List ℕ) (e : Result Draft Refusal) : Type 0 where
   pub opens : List ℕ
-  pub ends : Ends text out opens store e
+  pub heads : List ℕ
+  pub nexts : List ℕ
+  pub ends : Ends text out opens starts lens heads nexts e
   pub short : length text ≤ 65536
 
 -- names of each sort stand in the sections of the table

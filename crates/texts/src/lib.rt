@@ -15,7 +15,6 @@ use pieces::Refusal;
 use reader::walking::walk;
 use readouts::ReadText;
 use scanning::find_arities;
-use symbols::NameStore;
 
 pub mod places; // where a formula stands
 
@@ -153,11 +152,12 @@ fn finish(
     text: &[u8],
     book: &mut [u8],
     names: &mut [u8],
-    store: &NameStore,
+    starts: &[u16],
+    lens: &[u8],
     out: &mut [u8],
     b: Draft,
 ) -> ReadText
-    requires { Came text.now out.old store.now (Ok b) }
+    requires { Came text.now out.old starts.now lens.now (Ok b) }
     ensures { Is text.now book.old names.old result book.new names.new }
 {
     if 32769 < b.from {
@@ -166,31 +166,24 @@ fn finish(
     let end = b.from - 2;
     out[end] = 7;
     let stop = end + 1;
-    judge(
-        text,
-        book,
-        names,
-        &store.starts,
-        &store.lens,
-        &out[0..stop],
-        b,
-    )
+    judge(text, book, names, starts, lens, &out[0..stop], b)
 }
 
 fn answer(
     text: &[u8],
     book: &mut [u8],
     names: &mut [u8],
-    store: &NameStore,
+    starts: &[u16],
+    lens: &[u8],
     out: &mut [u8],
     ended: Result<Draft, Refusal>,
 ) -> ReadText
-    requires { Came text.now out.old store.now ended }
+    requires { Came text.now out.old starts.now lens.now ended }
     ensures { Is text.now book.old names.old result book.new names.new }
 {
     match ended {
         Err(refused) => refusal(u8::from(refused.code), refused.place),
-        Ok(b) => finish(text, book, names, store, out, b),
+        Ok(b) => finish(text, book, names, starts, lens, out, b),
     }
 }
 
@@ -199,16 +192,22 @@ fn read_short(text: &[u8], book: &mut [u8], names: &mut [u8]) -> ReadText
     requires { length text.now ≤ 65536 }
     ensures { Is text.now book.old names.old result book.new names.new }
 {
-    let mut store = NameStore {
-        starts: [0; 28160],
-        lens: [0; 28160],
-        heads: [0; 12288],
-        nexts: [0; 28160],
-    };
+    let mut starts = [0u16; 28160];
+    let mut lens = [0u8; 28160];
+    let mut heads = [0u16; 12288];
+    let mut nexts = [0u16; 28160];
     let mut out = [0u8; 33800];
     let mut opens = [0u16; 256];
-    let ended = walk(text, &mut store, &mut out, &mut opens);
-    answer(text, book, names, &store, &mut out, ended)
+    let ended = walk(
+        text,
+        &mut starts,
+        &mut lens,
+        &mut heads,
+        &mut nexts,
+        &mut out,
+        &mut opens,
+    );
+    answer(text, book, names, &starts, &lens, &mut out, ended)
 }
 
 // Reads a text as a book with its name list (document 02, C-13).

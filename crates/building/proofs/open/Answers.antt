@@ -16,4 +16,4 @@ pub symbol-requires : goal.symbol-requires
 symbol-requires c = record { somewhere = record { base = _; spots = _; drafted = c.requires.built.drafted }; len_bound = (len_low c.requires.built c.requires.count, c.requires.name_inside, c.requires.name_low, c.requires.name_short) }
 
 pub returns : goal.returns
-returns c = opened-all _ _ _ _ _ _ _ _ _ _ c.kind_at-kind.ensures refl c.symbol.ensures
+returns c = opened-all _ _ _ _ _ _ _ _ _ _ _ _ _ _ _ _ c.kind_at-kind.ensures refl c.symbol.ensures

@@ -18,4 +18,4 @@ pub overflow_add-b-2 : goal.overflow_add-b-2
 overflow_add-b-2 c = omega (arith, c.requires.len_bound.0, symbol-short c.args.w.kind c.number_in-number.result _ c.put_symbol-more.ensures.1)
 
 pub returns : goal.returns
-returns c = adds-symbol _ _ _ _ _ _ _ _ _ _ _ _ _ c.section-c.ensures c.next-d.ensures c.counted.ensures c.number_in-number.ensures c.put_symbol-more.ensures.0 c.put_symbol-more.ensures.1
+returns c = adds-symbol _ _ _ _ _ _ _ _ _ _ _ _ _ _ _ _ _ _ _ c.section-c.ensures c.next-d.ensures c.counted.ensures c.number_in-number.ensures c.put_symbol-more.ensures.0 c.put_symbol-more.ensures.1

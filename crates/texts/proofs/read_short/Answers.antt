@@ -5,4 +5,4 @@ pub walk-ended-requires : goal.walk-ended-requires
 walk-ended-requires c = (c.requires, fresh _)
 
 pub answer-requires : goal.answer-requires
-answer-requires c = record { opens = _; ends = c.walk-ended.ensures; short = c.requires }
+answer-requires c = record { opens = _; heads = _; nexts = _; ends = c.walk-ended.ensures; short = c.requires }
