@@ -201,6 +201,5 @@ module _ {text out starts lens heads nexts : List ℕ} {b : Draft} {T : Tables} 
   number-few {starts'} {lens'} {heads'} {nexts'} w r l n =
       number_low k w r d l (subst (λ (x : Section). Numbers text starts lens heads nexts starts' lens' heads' nexts' x w r) p n)
 
-
 pub symbol-short : (k : Kind) (r m : ℕ) → m ≡ length (symbol_bytes k r) → m ≤ 4
 symbol-short k r m s = omega (arith, s, symbol-long k r)

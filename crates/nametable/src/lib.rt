@@ -46,7 +46,7 @@ fn is_name(text: &[u8], starts: &[u16], lens: &[u8], i: usize, at: usize, len: u
 }
 
 // The number of the name at a place, where it is not new.
-// The four slices are parts of one storage (symbols, NameStore), lent side by side: a struct of `&mut` slices is no plainer, since each clause would also have to say whose they are.
+// The four slices are parts of one storage that is lent (symbols): a struct of `&mut` slices is no plainer, since each clause would also have to say whose they are.
 fn find(
     text: &[u8],
     starts: &[u16],
