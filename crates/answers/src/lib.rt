@@ -15,6 +15,7 @@ fn is_whole(bytes: &[u8], at: usize) -> bool
     at < bytes.len() && body_length(bytes[at]) < bytes.len() - at
 }
 
+// The kind 01 of a variable stays a byte, as where records are read (records/src/record.rt).
 fn clear_at(copy: &mut [u8], at: usize)
     requires { at + body_length (get_or copy.old at 0) < length copy.old }
     ensures { copy.new ≡ clear_at copy.old at }

@@ -6,7 +6,8 @@ ghost use Rattle.clashing.specs.Seek.{here, outside_after};
 use pieces::{end_of, piece_at};
 use texts::places::{Sign, depth_after, sign_of};
 
-// Whether the search for the formula behind k commas ends before this piece.
+// Whether the search for the formula behind k commas ends before this piece. By commas, as `formula_at` (questions) counts; the search in rules (texts, places)
+// counts names, as `formula_place` (readouts) does, since a rule has no comma behind its head.
 fn is_here(sign: Sign, outside: usize, depth: usize, k: usize) -> bool
     ensures { result ≡ here sign outside depth k }
 {

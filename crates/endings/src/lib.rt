@@ -9,7 +9,8 @@ use outcomes::Answer;
 use outcomes::admit::Admitted;
 use states::Ended;
 
-// "Codes 1 to 19 refuse the input .. and give steps, span, bytes and every count 0."
+// "Codes 1 to 19 refuse the input .. and give steps, span, bytes and every count 0." Pick, apply call and run each answer by a struct of their own, and each
+// definition has such a refusal: so there are three.
 pub fn refused(a: Admitted) -> Answer
     ensures { result ≡ refused a }
 {

@@ -25,6 +25,7 @@ pub fn number(a: Answer) -> u64
     pack(a.code, a.bytes, a.steps)
 }
 
+// Of an apply call, which has the clause number where a run has its steps: another struct with another definition, so that a trait for both would be longer than the two.
 pub fn applied_number(a: Stepped) -> u64
     requires { ApplyNarrow a }
     ensures { result ≡ apply_number a }

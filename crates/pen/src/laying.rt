@@ -57,7 +57,7 @@ fn digit(d: usize) -> u8
     b'0' + d as u8
 }
 
-// A number below 100,000 in decimal, at the end of five bytes; where it starts.
+// A number below 100,000 in decimal, at the end of five bytes; where it starts. By hand: the library writes digits into a `String` or a writer, and here is no heap.
 fn set_digits(five: &mut [u8], v: usize) -> usize
     requires { (length five.old ≡ 5) × (v < 100000) }
     ensures { (drop result five.new ≡ digits 5 v) × (result < 5) × (length five.new ≡ 5) }

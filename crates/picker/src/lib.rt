@@ -29,6 +29,7 @@ const PICKED: u8 = 25;
 
 const UNKNOWN: u8 = 26;
 
+// Pick, apply call and run each answer by a struct of their own, and each definition has such a refusal: so there are three.
 fn refused(a: Admitted) -> Picked
     ensures { result ≡ pick_refused a }
 {
@@ -117,7 +118,7 @@ fn from_bytes(
     )
 }
 
-// The same with storage of its own, with room for N words of the book.
+// The same with storage of its own, with room for N words of the book. The apply call (stepping) has one too: it writes an area, and promises other things.
 fn with_words<const N: usize>(book: &[u8], query: &[u8]) -> Picked
     requires good { Good book.now query.now 16387 }
     requires book_len_bound { (length book.now ≤ 3 * N + 2) × (N ≤ 10922) }

@@ -130,7 +130,8 @@ fn print_image(image: &[u8], names: &[u8], area: &mut [u8]) -> Printout
     }
 }
 
-// "Write a good book with its name list as text" (document 02, C-14).
+// "Write a good book with its name list as text" (document 02, C-14). Three entries and no function over the check: each contract has definitions of its own,
+// and what the three share is `print_image`.
 pub fn print_book(book: &[u8], names: &[u8], area: &mut [u8]) -> Printout
     ensures answer { result ≡ print_answer book.now names.now area.old }
     ensures text { area.new ≡ print_area book.now names.now area.old }

@@ -24,7 +24,11 @@ pub struct Reading {
     pub draft: Draft,
 }
 
-// Refusals that are this entry's own (document 02, C-13); those of a book and of a text are their checks'.
+// Codes that are this entry's own (document 02, C-13); those of a book and of a text are their checks'.
+const READ: u8 = 0;
+
+const TWO_ARITIES: u8 = 17;
+
 const NO_ROOM: u8 = 43;
 
 const NO_LIST: u8 = 45;
@@ -75,7 +79,7 @@ fn give(
     put_query(query, nodes, d.formulas);
     put_list(list, names, text, table, g, d);
     ReadQuery {
-        code: 0,
+        code: READ,
         place: 0,
         query: bytes as u32,
         names: size as u32,
@@ -101,7 +105,7 @@ fn judge(
     let end = d.len;
     let nodes = &out[0..end];
     if let Some(k) = count_kept(book, nodes) {
-        return refusal(17, formula_at(text, k) as u32);
+        return refusal(TWO_ARITIES, formula_at(text, k) as u32);
     }
     give(text, names, query, list, table, nodes, g, d)
 }

@@ -30,7 +30,8 @@ const NO_CLAUSE: u8 = 32;
 
 const APART: u8 = 33;
 
-// "Codes 1 to 19 refuse the input .. and give steps, span, bytes and every count 0."
+// "Codes 1 to 19 refuse the input .. and give steps, span, bytes and every count 0." Pick, apply call and run each answer by a struct of their own, and each
+// definition has such a refusal: so there are three.
 fn refused(a: Admitted) -> Stepped
     ensures { result ≡ step_refused a }
 {
