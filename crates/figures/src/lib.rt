@@ -50,7 +50,7 @@ struct Words {
 }
 
 // The first word where a clause has no thrift.
-const LAVISH: usize = 65535;
+const NO_THRIFT: usize = 65535;
 
 // The second word is 0 for no clause: a body has a first formula, and a fact with no variables is whole.
 fn packed(x: Figure) -> Words
@@ -61,7 +61,7 @@ fn packed(x: Figure) -> Words
     let first = x.first * 128;
     let Some(thrift) = x.thrift else {
         return Words {
-            fresh: LAVISH,
+            fresh: NO_THRIFT,
             rest: first,
         };
     };
@@ -77,7 +77,7 @@ fn unpacked(fresh: usize, rest: usize) -> Figure
     ensures { result ≡ figure_in fresh rest }
 {
     let first = rest / 128 % 256;
-    if fresh == LAVISH {
+    if fresh == NO_THRIFT {
         return Figure {
             thrift: None,
             first,
