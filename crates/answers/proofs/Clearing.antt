@@ -1,11 +1,12 @@
 -- Records cleared one behind the other, in a copy.
 use Prim.Native.Nat.{ℕ, zero, suc, ◌+◌, ◌-◌, ◌≤◌, ◌<◌}
-use mathlib.Core.Path.{◌≡◌, refl, sym as inv, ap, ◌∙◌}
+use mathlib.Core.Path.{◌≡◌, refl, sym as inv, ap, ap₂, ◌∙◌}
 use mathlib.Core.Bool.{Bool, true, false}
-use mathlib.Core.List.{List}
+use mathlib.Core.List.{List, [], ◌∷◌, ◌++◌}
 use native.Mathlib.Omega.{arith}
 use borrow.Author.Tests.{lt-ltb, ltb-true, ltb-false, eq-eqb, ne_eqb}
-use lib.ListN.{length, get_or, set}
+use lib.ListN.{length, get_or, set, take, length-set}
+use lib.Seq.{take-suc-set, take-suc, take_all}
 use lib.Dec.{ltb}
 use Rattle.format.specs.declared.Check.{Check}
 use Rattle.format.specs.Reading.{body_length, verdict, query_verdict}
@@ -71,7 +72,39 @@ module _ (s₀ : List ℕ) where
 
 pub ruleset clearing = (clearing-start, clearing-step, clearing-less, clearing-whole, clearing-end)
 
+-- The copy
+
+pub record Copied (s₀ s answer : List ℕ) (i : ℕ) : Type 0 where
+  pub below : i ≤ length answer
+  pub room : length answer ≤ length s
+  pub size : length s ≡ length s₀
+  pub front : take i s ≡ take i answer
+
+module _ (s₀ answer : List ℕ) where
+  pub copied-start : length answer ≤ length s₀ → Copied s₀ s₀ answer 0
+  copied-start h = record { below = omega arith; room = h; size = refl; front = refl }
+
+  pub copied-step : (s s' : List ℕ) (i : ℕ) → Copied s₀ s answer i → i < length answer → s' ≡ set s i (get_or answer i 0) → Copied s₀ s' answer (i + 1)
+  copied-step s s' i g h e =
+      let n : i + 1 ≡ suc i = omega arith in
+      record {
+        below = omega arith;
+        room = omega (arith, ap length e, length-set s i (get_or answer i 0), g.room);
+        size = ap length e ∙ length-set s i (get_or answer i 0) ∙ g.size;
+        front = ap₂ take n e ∙ take-suc-set s i (get_or answer i 0) (omega (arith, g.room)) ∙ ap (λ (x : List ℕ). x ++ (get_or answer i 0 ∷ [])) g.front ∙ inv (take-suc answer i 0 h) ∙ ap (λ (m : ℕ). take m answer) (inv n);
+      }
+
+  pub copied-end : (s : List ℕ) (i : ℕ) → Copied s₀ s answer i → length answer ≤ i → take (length answer) s ≡ answer
+  copied-end s i g h =
+      let n : length answer ≡ i = omega (arith, g.below) in
+      ap (λ (m : ℕ). take m s) n ∙ g.front ∙ take_all i answer (omega arith)
+
+pub ruleset copied = (copied-start, copied-step, copied-end)
+
 -- An answer that is too long is no shorter with its numbers cleared
 pub long_same : (book answer : List ℕ) (r : Check) → 16387 < length answer → r ≡ query_verdict book answer → r ≡ answer_verdict book answer
 unfolding query_verdict verdict
 long_same book answer r h e = e ∙ rw (lt-ltb 16387 (length answer) h, lt-ltb 16387 (length (unnumbered answer)) (omega (arith, cleared-length (length answer) answer 0))) refl
+
+pub copied-check : (book answer s : List ℕ) (n : ℕ) (r : Check) → take (length answer) s ≡ answer → n ≡ length answer → r ≡ answer_verdict book (take n s) → r ≡ answer_verdict book answer
+copied-check book answer s n r e f g = g ∙ ap (answer_verdict book) (ap (λ (m : ℕ). take m s) f ∙ e)

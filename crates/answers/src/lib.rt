@@ -1,7 +1,7 @@
 // An answer is held to what a query is held to, the numbers of its variables apart (document 02, C-14): in a copy each of them becomes 0.
 #![tactic(auto)]
 
-ghost use Rattle.std.specs.Prelude.{◌≡◌, ◌+◌, ◌<◌, ◌≤◌, length, get_or, ltb};
+ghost use Rattle.std.specs.Prelude.{◌≡◌, ◌+◌, ◌<◌, ◌≤◌, length, get_or, take, ltb};
 ghost use Rattle.format.specs.Reading.{body_length};
 ghost use Rattle.printouts.specs.Answer.{clear_at, unnumbered, answer_verdict};
 
@@ -37,6 +37,16 @@ fn clear(copy: &mut [u8])
     }
 }
 
+// By a loop: `copy_from_slice` makes a number of how far apart two slices lie, and an archive makes none (docs/PORTS.md).
+fn fill(copy: &mut [u8], answer: &[u8])
+    requires { length answer.now ≤ length copy.old }
+    ensures { take (length answer.now) copy.new ≡ answer.now }
+{
+    for i in 0..answer.len() {
+        copy[i] = answer[i];
+    }
+}
+
 fn check_cleared(book: &[u8], copy: &mut [u8]) -> Check
     ensures { result ≡ answer_verdict book.now copy.old }
 {
@@ -48,8 +58,8 @@ fn check_copy(book: &[u8], answer: &[u8], copy: &mut [u8]) -> Check
     requires { length answer.now ≤ length copy.old }
     ensures { result ≡ answer_verdict book.now answer.now }
 {
+    fill(copy, answer);
     let part = &mut copy[..answer.len()];
-    part.copy_from_slice(answer);
     check_cleared(book, part)
 }
 

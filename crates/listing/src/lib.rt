@@ -6,12 +6,14 @@ ghost use Rattle.nametable.specs.Table.{word};
 ghost use Rattle.storage.specs.Storage.{Written};
 ghost use Rattle.listing.specs.Lists.{heard, noted, sizes, Within};
 
-// So many bytes of s, from a place on, at the area's front.
+// So many bytes of s, from a place on, at the area's front. By a loop: `copy_from_slice` makes a number of how far apart two slices lie, and an archive makes none (docs/PORTS.md).
 pub fn put_bytes(area: &mut [u8], s: &[u8], start: usize, len: usize)
     requires { (start + len ≤ length s.now) × (len ≤ length area.old) }
     ensures { Written (word s.now start len) area.old area.new len }
 {
-    area[..len].copy_from_slice(&s[start..start + len]);
+    for i in 0..len {
+        area[i] = s[start + i];
+    }
 }
 
 // A name with its number, at the area's front.

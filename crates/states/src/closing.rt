@@ -7,17 +7,17 @@ use crate::{Code, Ended, Place};
 use detector::Detector;
 
 pub fn close(
-    code: Code,
+    code: u8,
     detector: Detector,
     span: u32,
     words: usize,
     formulas: usize,
     answer: usize,
 ) -> Ended
-    ensures { result ≡ closed (number code) detector span words formulas answer }
+    ensures { result ≡ closed code detector span words formulas answer }
 {
     Ended {
-        code: u8::from(code),
+        code,
         steps: detector.step,
         span,
         words,
@@ -34,7 +34,7 @@ impl Place {
         ensures { result ≡ closed (number code) self.detector 0 self.words self.formulas self.answer }
     {
         close(
-            code,
+            u8::from(code),
             self.detector,
             0,
             self.words,

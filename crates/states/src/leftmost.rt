@@ -10,12 +10,14 @@ pub fn same_front(goal: &[u32], front: usize, saved: &[u32], kept: usize) -> boo
     goal[..front] == saved[..kept]
 }
 
-// A row, or a formula, written over the front of another.
+// A row, or a formula, written over the front of another. By a loop: `copy_from_slice` makes a number of how far apart two slices lie, and an archive makes none (docs/PORTS.md).
 pub fn copy_words(src: &[u32], dst: &mut [u32], n: usize)
     requires { (n ≤ length src.now) × (n ≤ length dst.old) }
     ensures { dst.new ≡ take n src.now ++ drop n dst.old }
 {
-    dst[..n].copy_from_slice(&src[..n]);
+    for i in 0..n {
+        dst[i] = src[i];
+    }
 }
 
 // Saves the leftmost formula, if that is due; answers how many words are saved.

@@ -83,13 +83,20 @@ pub fn look(
     ensures { Looked goal.now saved.now detector words formulas answer kept result }
 {
     if formulas == 0 {
-        return Err(close(Code::Solved, detector, 0, words, formulas, answer));
+        return Err(close(u8::from(Code::Solved), detector, 0, words, formulas, answer));
     }
     let front = extent(&goal[..words]);
     let same = same_front(goal, front, saved, kept);
     let Judged { detector, span } = detector.judge(formulas as u32, same);
     match span {
-        Some(span) => Err(close(Code::Loop, detector, span, words, formulas, answer)),
+        Some(span) => Err(close(
+            u8::from(Code::Loop),
+            detector,
+            span,
+            words,
+            formulas,
+            answer,
+        )),
         None => Ok(Place {
             detector,
             words,
