@@ -1,14 +1,14 @@
-// The entries, each with its line. What each leaves in a lent area is what the entry's contract says. Of what is written no contract can speak: a line that can't be written is left out, and the next item is tried.
+// The entries, each with its line. What each leaves in a lent area is what the entry's contract says. Of what is written no contract can speak: a number that can't be written is left out, and the next one is tried.
 ghost use Rattle.std.specs.Prelude.{◌≡◌};
 ghost use Rattle.outcomes.specs.Outcome.{step_area, apply_area, run_area, run_answer_area};
 
-use crate::line::sum;
+use crate::line::{say, sum};
 use format::Check;
 use outcomes::{Answer, Picked, Stepped};
 
 pub fn check(rt: &impl Print, a: Check) {
     let Check { code, place, count } = a;
-    let _ = println!(rt; "{code} {place} {count}");
+    say(rt, &[u64::from(code), place as u64], count as u64);
 }
 
 pub fn check_book(rt: &impl Print, book: &[u8]) {
@@ -30,9 +30,19 @@ pub fn stepped(rt: &impl Print, a: Stepped, area: &[u8]) {
         furthest,
         argument,
     } = a;
-    let sum = sum(area);
-    let _ = println!(rt;
-        "{code} {place} {steps} {span} {bytes} {clause} {furthest} {argument} {sum}"
+    say(
+        rt,
+        &[
+            u64::from(code),
+            u64::from(place),
+            u64::from(steps),
+            u64::from(span),
+            u64::from(bytes),
+            u64::from(clause),
+            u64::from(furthest),
+            u64::from(argument),
+        ],
+        sum(area),
     );
 }
 
@@ -59,7 +69,17 @@ pub fn pick(rt: &impl Print, book: &[u8], query: &[u8]) {
         furthest,
         argument,
     } = picker::pick(book, query);
-    let _ = println!(rt; "{code} {place} {steps} {clause} {furthest} {argument}");
+    say(
+        rt,
+        &[
+            u64::from(code),
+            u64::from(place),
+            u64::from(steps),
+            u64::from(clause),
+            u64::from(furthest),
+        ],
+        u64::from(argument),
+    );
 }
 
 pub fn answered(rt: &impl Print, a: Answer, area: &[u8], answer: &[u8]) {
@@ -73,10 +93,20 @@ pub fn answered(rt: &impl Print, a: Answer, area: &[u8], answer: &[u8]) {
         furthest,
         argument,
     } = a;
-    let area_sum = sum(area);
-    let answer_sum = sum(answer);
-    let _ = println!(rt;
-        "{code} {place} {steps} {span} {bytes} {answer_bytes} {furthest} {argument} {area_sum} {answer_sum}"
+    say(
+        rt,
+        &[
+            u64::from(code),
+            u64::from(place),
+            u64::from(steps),
+            u64::from(span),
+            u64::from(bytes),
+            u64::from(answer_bytes),
+            u64::from(furthest),
+            u64::from(argument),
+            sum(area),
+        ],
+        sum(answer),
     );
 }
 
@@ -107,20 +137,17 @@ pub fn run_for_c(
     ensures answer { answer.new ≡ run_answer_area book.now query.now budget area.old answer.old }
 {
     let number = engine::pitxargole_run(budget, book, query, area, answer);
-    let area_sum = sum(area);
-    let answer_sum = sum(answer);
-    let _ = println!(rt; "{number} {area_sum} {answer_sum}");
+    say(rt, &[number, sum(area)], sum(answer));
 }
 
 pub fn pick_for_c(rt: &impl Print, book: &[u8], query: &[u8]) {
     let number = engine::pitxargole_pick(book, query);
-    let _ = println!(rt; "{number}");
+    say(rt, &[], number);
 }
 
 pub fn apply_for_c(rt: &impl Print, book: &[u8], query: &[u8], clause: u32, area: &mut [u8])
     ensures { area.new ≡ apply_area book.now query.now clause area.old }
 {
     let number = engine::pitxargole_apply(clause, book, query, area);
-    let sum = sum(area);
-    let _ = println!(rt; "{number} {sum}");
+    say(rt, &[number], sum(area));
 }

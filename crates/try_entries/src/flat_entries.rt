@@ -3,14 +3,20 @@ ghost use Rattle.std.specs.Prelude.{◌≡◌};
 ghost use Rattle.flatly.specs.Outcome.{flat_step_area, flat_run_area, flat_run_answer_area};
 
 use crate::entries::{answered, check, stepped};
-use crate::line::sum;
+use crate::line::{say, sum};
 use profile::firmware;
 
 pub fn check_book(rt: &impl Print, book: &[u8]) {
     let a = flatness::check_flat_book(book);
-    let _ = println!(rt;
-        "{} {} {} {} {}",
-        a.code, a.place, a.clauses, a.predicates, a.constants
+    say(
+        rt,
+        &[
+            u64::from(a.code),
+            a.place as u64,
+            a.clauses as u64,
+            a.predicates as u64,
+        ],
+        a.constants as u64,
     );
 }
 
@@ -42,20 +48,19 @@ pub fn run(
 
 pub fn book_for_c(rt: &impl Print, book: &[u8]) {
     let number = firmware::pitxargole_flat_book(book);
-    let _ = println!(rt; "{number}");
+    say(rt, &[], number);
 }
 
 pub fn query_for_c(rt: &impl Print, book: &[u8], query: &[u8]) {
     let number = firmware::pitxargole_flat_query(book, query);
-    let _ = println!(rt; "{number}");
+    say(rt, &[], number);
 }
 
 pub fn step_for_c(rt: &impl Print, book: &[u8], query: &[u8], area: &mut [u8])
     ensures { area.new ≡ flat_step_area book.now query.now area.old }
 {
     let number = firmware::pitxargole_flat_step(book, query, area);
-    let sum = sum(area);
-    let _ = println!(rt; "{number} {sum}");
+    say(rt, &[number], sum(area));
 }
 
 pub fn run_for_c(
@@ -70,7 +75,5 @@ pub fn run_for_c(
     ensures answer { answer.new ≡ flat_run_answer_area book.now query.now budget area.old answer.old }
 {
     let number = firmware::pitxargole_flat_run(budget, book, query, area, answer);
-    let area_sum = sum(area);
-    let answer_sum = sum(answer);
-    let _ = println!(rt; "{number} {area_sum} {answer_sum}");
+    say(rt, &[number, sum(area)], sum(answer));
 }

@@ -1,6 +1,14 @@
-// The sum that stands for an area in a line.
+// The parts of a line: numbers, and the sum that stands for an area.
 ghost use Rattle.std.specs.Prelude.{◌≡◌, ◌<◌};
 ghost use Rattle.try_entries.specs.Sum.{added, summed};
+
+// Of what is written no contract can speak. Each number has a write of its own: where it fails, this number is left out, and the next one is tried.
+pub(crate) fn say(rt: &impl Print, numbers: &[u64], last: u64) {
+    for n in numbers {
+        let _ = print!(rt; "{n} ");
+    }
+    let _ = println!(rt; "{last}");
+}
 
 fn added(sum: u64, byte: u8) -> u64
     requires { sum < 0x8000_0000 }

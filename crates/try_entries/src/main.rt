@@ -6,6 +6,8 @@
 // the check of a book (10), that of a query (11), a single step (12) and a run (13), and these four for C (14 to 17); a book (18), a goal (19) or an answer (20) to be printed; a text to be read as rules (21), and one to be read as a query (22). Numbers are most significant byte first. A stream that ends inside an item, or has an item that is none of these, gets the line `damaged`, and no item after it is tried.
 #![tactic(auto)]
 
+ghost use Rattle.std.specs.Prelude.{◌≤◌, length};
+
 mod entries;
 mod flat_entries;
 mod item;
@@ -16,7 +18,6 @@ mod print;
 mod text_entries;
 
 use crate::item::{Damaged, Entry};
-use std::alloc::{AllocError, Global};
 use std::io;
 use std::io::Read;
 
@@ -29,32 +30,18 @@ const HEADER: usize = 5;
 // The number of the entry that is lent no area.
 const CHECK_BOOK: u8 = 1;
 
-// The item that was read last, and what is lent to its entry.
+// Where an item is read to, and what is lent to its entry. They are arrays on the stack, so that the program needs no heap and can't run out of it.
 #[derive(Drop)]
 struct Room {
-    item: Vec<u8>,
-    area: Vec<u8>,
-    answer: Vec<u8>,
+    item: [u8; MOST],
+    area: [u8; MOST],
+    answer: [u8; MOST],
 }
 
 impl Room {
-    fn new(alloc: Global) -> Result<Room, AllocError> {
-        Ok(Room {
-            item: Vec::with_capacity(alloc, MOST)?,
-            area: vec![in alloc; 0; MOST]?,
-            answer: vec![in alloc; 0; MOST]?,
-        })
-    }
-
-    // Puts the next bytes of the input into the item, which has room for them: as many as are asked for, or fewer where the input ends or a read fails.
-    fn read(&mut self, input: &mut impl Read, most: usize) {
-        self.item.clear();
-        let _ = input.take(most as u64).read_to_end(&mut self.item);
-    }
-
-    // Tries the item that was read last.
-    fn try_item(&mut self, rt: &impl Print, number: u8) -> Result<(), Damaged> {
-        let item = self.item.as_slice();
+    // Tries the item that was read last, of this length.
+    fn try_item(&mut self, rt: &impl Print, number: u8, length: usize) -> Result<(), Damaged> {
+        let item = self.item.get(..length).ok_or(Damaged)?;
         if number == CHECK_BOOK {
             entries::check_book(rt, item);
             return Ok(());
@@ -65,19 +52,17 @@ impl Room {
 
     // Whether there was a next item, which was tried.
     fn try_next(&mut self, rt: &impl Print, input: &mut impl Read) -> Result<bool, Damaged> {
-        self.read(input, HEADER);
-        if self.item.is_empty() {
+        let mut first = [0; HEADER];
+        let n = read_full(input, &mut first);
+        if n == 0 {
             return Ok(false);
         }
-        let (number, length) = header(&self.item).ok_or(Damaged)?;
-        if MOST < length {
+        let (number, length) = header(&first[..n]).ok_or(Damaged)?;
+        let item = self.item.get_mut(..length).ok_or(Damaged)?;
+        if read_full(input, item) < length {
             return Err(Damaged);
         }
-        self.read(input, length);
-        if self.item.len() < length {
-            return Err(Damaged);
-        }
-        self.try_item(rt, number)?;
+        self.try_item(rt, number, length)?;
         Ok(true)
     }
 
@@ -92,6 +77,20 @@ impl Room {
     }
 }
 
+// Reads until the buffer is full, the input ends or a read fails, and says how many bytes are in it then. The program trace has the same: the two have no crate of their own below them.
+fn read_full(input: &mut impl Read, buffer: &mut [u8]) -> usize
+    ensures { result ≤ length buffer.new }
+{
+    let mut done = 0;
+    while done < buffer.len() {
+        match input.read(&mut buffer[done..]) {
+            Ok(0) | Err(_) => break,
+            Ok(n) => done += n,
+        }
+    }
+    done
+}
+
 // The number of an item's entry, and how many bytes follow.
 fn header(bytes: &[u8]) -> Option<(u8, usize)> {
     let (number, rest) = bytes.split_first()?;
@@ -100,7 +99,11 @@ fn header(bytes: &[u8]) -> Option<(u8, usize)> {
 }
 
 fn main(rt: HostRuntime) -> io::Result<()> {
-    let mut room = Room::new(rt.alloc())?;
+    let mut room = Room {
+        item: [0; MOST],
+        area: [0; MOST],
+        answer: [0; MOST],
+    };
     if room.try_all(&rt, &mut rt.stdin()).is_err() {
         let _ = println!(rt; "damaged");
     }

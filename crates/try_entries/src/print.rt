@@ -3,13 +3,16 @@ ghost use Rattle.std.specs.Prelude.{◌≡◌};
 ghost use Rattle.printouts.specs.Outcome.{print_area, goal_area};
 ghost use Rattle.printouts.specs.Answer.{found_area};
 
-use crate::line::sum;
+use crate::line::{say, sum};
 use printouts::Printout;
 
 fn printed(rt: &impl Print, a: Printout, area: &[u8]) {
     let Printout { code, place, bytes } = a;
-    let sum = sum(area);
-    let _ = println!(rt; "{code} {place} {bytes} {sum}");
+    say(
+        rt,
+        &[u64::from(code), place as u64, bytes as u64],
+        sum(area),
+    );
 }
 
 pub fn book(rt: &impl Print, book: &[u8], names: &[u8], area: &mut [u8])

@@ -3,21 +3,23 @@ ghost use Rattle.std.specs.Prelude.{◌≡◌};
 ghost use Rattle.questions.specs.Outcome.{query_area, list_area};
 ghost use Rattle.readouts.specs.Outcome.{read_book, names_read};
 
-use crate::line::sum;
+use crate::line::{say, sum};
 
 pub fn rules(rt: &impl Print, text: &[u8], book: &mut [u8], names: &mut [u8])
     ensures book { book.new ≡ read_book text.now book.old names.old }
     ensures names { names.new ≡ names_read text.now book.old names.old }
 {
     let a = texts::read_text(text, book, names);
-    let _ = println!(rt;
-        "{} {} {} {} {} {}",
-        a.code,
-        a.place,
-        a.book,
-        a.names,
-        sum(book),
-        sum(names)
+    say(
+        rt,
+        &[
+            u64::from(a.code),
+            u64::from(a.place),
+            u64::from(a.book),
+            u64::from(a.names),
+            sum(book),
+        ],
+        sum(names),
     );
 }
 
@@ -33,13 +35,15 @@ pub fn query(
     ensures list { list.new ≡ list_area text.now book.now names.now query.old list.old }
 {
     let a = queries::read_query(text, book, names, query, list);
-    let _ = println!(rt;
-        "{} {} {} {} {} {}",
-        a.code,
-        a.place,
-        a.query,
-        a.names,
-        sum(query),
-        sum(list)
+    say(
+        rt,
+        &[
+            u64::from(a.code),
+            u64::from(a.place),
+            u64::from(a.query),
+            u64::from(a.names),
+            sum(query),
+        ],
+        sum(list),
     );
 }
