@@ -24,14 +24,39 @@ const RULES_NAMES: usize = 131_072;
 // A query brings at most 4,096 names more, and as many bytes of them as its text has, at most 65,536.
 const QUERY_NAMES: usize = 212_992;
 
+// What an entry filled of an area that was lent to it. Areas lie on the stack and only this is kept: to take large vectors for each query and give them back
+// costs more than to answer it. A function that has an area is not inlined, so that the area is gone when it returns.
+fn filled(alloc: Global, area: &[u8], bytes: usize) -> Result<Vec<u8>, AllocError> {
+    Vec::from_slice(alloc, area.get(..bytes).unwrap_or(area))
+}
+
 // What is printed, or nothing where there is no room for it.
+#[inline(never)]
 fn printed<F: FnOnce(&mut [u8]) -> Printout>(alloc: Global, print: F) -> Result<Vec<u8>, AllocError>
     requires { F.IsAlwaysCallable print }
 {
-    let mut text = vec![in alloc; 0; LONGEST_TEXT]?;
-    let printout = print(&mut text);
-    text.truncate(printout.bytes);
-    Ok(text)
+    let mut area = [0; LONGEST_TEXT];
+    let printout = print(&mut area);
+    filled(alloc, &area, printout.bytes)
+}
+
+// The book of the rules' text, and the names in it.
+#[inline(never)]
+fn read_book(alloc: Global, text: &[u8]) -> Result<(Vec<u8>, Vec<u8>), Fault<'_>> {
+    let mut book = [0; LONGEST_BOOK];
+    let mut names = [0; RULES_NAMES];
+    let read = read_text(text, &mut book, &mut names);
+    if read.code != 0 {
+        return Err(Fault::Refused(Refusal {
+            kind: Kind::Rules,
+            text,
+            reason: Reason::from(read.code),
+            place: read.place as usize,
+        }));
+    }
+    let book = filled(alloc, &book, read.book as usize)?;
+    let names = filled(alloc, &names, read.names as usize)?;
+    Ok((book, names))
 }
 
 // The rules as a book, the names in it, and the book as it is printed: a clause a line.
@@ -44,19 +69,7 @@ pub(crate) struct Rules {
 
 impl Rules {
     pub(crate) fn read(alloc: Global, text: &[u8]) -> Result<Rules, Fault<'_>> {
-        let mut book = vec![in alloc; 0; LONGEST_BOOK]?;
-        let mut names = vec![in alloc; 0; RULES_NAMES]?;
-        let read = read_text(text, &mut book, &mut names);
-        if read.code != 0 {
-            return Err(Fault::Refused(Refusal {
-                kind: Kind::Rules,
-                text,
-                reason: Reason::from(read.code),
-                place: read.place as usize,
-            }));
-        }
-        book.truncate(read.book as usize);
-        names.truncate(read.names as usize);
+        let (book, names) = read_book(alloc, text)?;
         let lines = printed(alloc, |area| print_book(&book, &names, area))?;
         let lines = String::from_utf8_lossy(alloc, &lines)?;
         Ok(Rules { book, names, lines })
@@ -85,13 +98,14 @@ pub(crate) struct Run {
 }
 
 impl<'a> Question<'a> {
+    #[inline(never)]
     pub(crate) fn read(
         alloc: Global,
         rules: &'a Rules,
         typed: &'a [u8],
     ) -> Result<Question<'a>, Fault<'a>> {
-        let mut query = vec![in alloc; 0; LONGEST_GOAL]?;
-        let mut names = vec![in alloc; 0; QUERY_NAMES]?;
+        let mut query = [0; LONGEST_GOAL];
+        let mut names = [0; QUERY_NAMES];
         let read = read_query(typed, &rules.book, &rules.names, &mut query, &mut names);
         if read.code != 0 {
             return Err(Fault::Refused(Refusal {
@@ -101,19 +115,18 @@ impl<'a> Question<'a> {
                 place: read.place as usize,
             }));
         }
-        query.truncate(read.query as usize);
-        names.truncate(read.names as usize);
         Ok(Question {
             rules,
             typed,
-            query,
-            names,
+            query: filled(alloc, &query, read.query as usize)?,
+            names: filled(alloc, &names, read.names as usize)?,
         })
     }
 
+    #[inline(never)]
     pub(crate) fn run(&self, alloc: Global, budget: u32) -> Result<Run, AllocError> {
-        let mut goal = vec![in alloc; 0; LONGEST_GOAL]?;
-        let mut answer = vec![in alloc; 0; LONGEST_GOAL]?;
+        let mut goal = [0; LONGEST_GOAL];
+        let mut answer = [0; LONGEST_GOAL];
         let outcome = run(
             &self.rules.book,
             &self.query,
@@ -121,12 +134,10 @@ impl<'a> Question<'a> {
             &mut goal,
             &mut answer,
         );
-        goal.truncate(outcome.bytes as usize);
-        answer.truncate(outcome.answer as usize);
         Ok(Run {
             outcome,
-            goal,
-            answer,
+            goal: filled(alloc, &goal, outcome.bytes as usize)?,
+            answer: filled(alloc, &answer, outcome.answer as usize)?,
         })
     }
 

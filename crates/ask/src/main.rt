@@ -15,8 +15,8 @@ mod values;
 
 use crate::given::{LONGEST_TEXT, Question, Rules};
 use crate::telling::Wanted;
-use crate::typed_words::Command;
-use std::alloc::{AllocError, Global};
+use crate::typed_words::{Command, LONGEST_PATH, LONGEST_WORD, word};
+use std::alloc::AllocError;
 use std::fs::File;
 use std::io;
 use std::io::{BufRead, IsTerminal, Read};
@@ -28,40 +28,42 @@ fn ask(rt: &HostRuntime, rules: &Rules, typed: &[u8], wanted: Wanted) -> io::Res
     }
 }
 
-// A line of standard input, and whether the input ended with it.
-#[derive(Drop)]
-struct Line {
-    text: Vec<u8>,
-    is_last: bool,
-}
-
-// A line that is longer than a text may be goes on in the next. A read that fails ends the input; no memory is asked for while it is read.
-fn read_line(alloc: Global, input: &mut impl BufRead) -> Result<Line, AllocError> {
-    let mut text = Vec::with_capacity(alloc, LONGEST_TEXT)?;
-    let _ = input.take(LONGEST_TEXT as u64).read_until(b'\n', &mut text);
-    let is_whole = text.last() == Some(&b'\n');
+// Puts the next line of standard input in the place of the one before, and says whether the input ended with it.
+// A line that is longer than a text may be goes on in the next. A read that fails ends the input; there is room for a line, and no memory is asked for while it is read.
+fn read_line(input: &mut impl BufRead, line: &mut Vec<u8>) -> bool {
+    line.clear();
+    let _ = input.take(LONGEST_TEXT as u64).read_until(b'\n', line);
+    let is_whole = line.last() == Some(&b'\n');
     if is_whole {
-        text.pop();
+        line.pop();
     }
-    let is_last = !is_whole && text.len() < LONGEST_TEXT;
-    Ok(Line { text, is_last })
+    !is_whole && line.len() < LONGEST_TEXT
 }
 
 fn ask_lines(rt: &HostRuntime, rules: &Rules, wanted: Wanted) -> io::Result<()> {
     let mut input = rt.reader();
+    let mut line = Vec::with_capacity(rt.alloc(), LONGEST_TEXT)?;
     for _ in 0..u32::MAX {
         if rt.stdin().is_terminal() {
             print!(rt; "?- ")?;
         }
-        let line = read_line(rt.alloc(), &mut input)?;
-        if !line.text.is_empty() {
-            ask(rt, rules, &line.text, wanted)?;
+        let is_last = read_line(&mut input, &mut line);
+        if !line.is_empty() {
+            ask(rt, rules, &line, wanted)?;
         }
-        if line.is_last {
+        if is_last {
             break;
         }
     }
     Ok(())
+}
+
+// Not inlined, so that its area is there for a query of the command line alone.
+#[inline(never)]
+fn ask_word(rt: &HostRuntime, rules: &Rules, at: usize, wanted: Wanted) -> io::Result<()> {
+    let mut area = [0; LONGEST_WORD];
+    let query = word(rt, at, &mut area).unwrap_or(&[]);
+    ask(rt, rules, query, wanted)
 }
 
 // As much of a file as a text may have, and a byte more, so that a longer one is seen to be; nothing where it can't be opened. The library opens only paths that are UTF-8.
@@ -78,10 +80,12 @@ fn read_file(rt: &HostRuntime, path: &[u8]) -> Result<Option<Vec<u8>>, AllocErro
     Ok(Some(text))
 }
 
-fn run(rt: &HostRuntime, command: Command<'_>) -> io::Result<()> {
-    let Some(text) = read_file(rt, command.rules)? else {
+fn run(rt: &HostRuntime, command: Command) -> io::Result<()> {
+    let mut area = [0; LONGEST_PATH];
+    let path = word(rt, command.rules, &mut area).unwrap_or(&[]);
+    let Some(text) = read_file(rt, path)? else {
         print!(rt; "there is no file ")?;
-        rt.write_all(command.rules)?;
+        rt.write_all(path)?;
         return println!(rt; " to read rules from");
     };
     let rules = match Rules::read(rt.alloc(), &text) {
@@ -89,14 +93,13 @@ fn run(rt: &HostRuntime, command: Command<'_>) -> io::Result<()> {
         Err(fault) => return fault.say(rt),
     };
     match command.query {
-        Some(query) => ask(rt, &rules, query, command.wanted),
+        Some(at) => ask_word(rt, &rules, at, command.wanted),
         None => ask_lines(rt, &rules, command.wanted),
     }
 }
 
 fn main(rt: HostRuntime) -> io::Result<()> {
-    let words = typed_words::typed(&rt)?;
-    match Command::read(&words) {
+    match Command::read(&rt) {
         Ok(command) => run(&rt, command),
         Err(unclear) => print!(rt; "{unclear}"),
     }

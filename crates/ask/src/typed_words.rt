@@ -1,17 +1,17 @@
 // The words of the command line.
 use crate::telling::Wanted;
-use std::alloc::AllocError;
 use std::env::{Env, FillError};
 use std::fmt;
 
 // The longest word that a command line has.
-const LONGEST_WORD: usize = 131_072;
+pub(crate) const LONGEST_WORD: usize = 131_072;
 
 // The longest path has fewer bytes.
-const LONGEST_PATH: usize = 4_096;
+pub(crate) const LONGEST_PATH: usize = 4_096;
 
 // A word of the command line, which may have any bytes, and not only UTF-8 as those of `env::args`; nothing behind the last.
-fn word<'a>(rt: &impl Env, at: usize, buffer: &'a mut [u8]) -> Option<&'a [u8]> {
+// One that is longer than the buffer is as an empty one.
+pub(crate) fn word<'a>(rt: &impl Env, at: usize, buffer: &'a mut [u8]) -> Option<&'a [u8]> {
     match rt.arg(at, buffer) {
         Ok(length) => Some(&buffer[..length]),
         Err(FillError::NotPresent) => None,
@@ -19,25 +19,11 @@ fn word<'a>(rt: &impl Env, at: usize, buffer: &'a mut [u8]) -> Option<&'a [u8]> 
     }
 }
 
-// The words behind the program's name.
-pub(crate) fn typed(rt: &(impl Env + AllocGlobal)) -> Result<Vec<Vec<u8>>, AllocError> {
-    let alloc = rt.alloc();
-    let mut words = Vec::new(alloc);
-    let mut buffer = vec![in alloc; 0; LONGEST_WORD]?;
-    for at in 1..usize::MAX {
-        let Some(word) = word(rt, at, &mut buffer) else {
-            break;
-        };
-        words.push(Vec::from_slice(alloc, word)?)?;
-    }
-    Ok(words)
-}
-
-// The rules' file, the query if it is not to be read from standard input, and what else is asked for.
+// Which word is the rules' file, which the query if it is not to be read from standard input, and what else is asked for.
 #[derive(Clone, Copy)]
-pub(crate) struct Command<'a> {
-    pub(crate) rules: &'a [u8],
-    pub(crate) query: Option<&'a [u8]>,
+pub(crate) struct Command {
+    pub(crate) rules: usize,
+    pub(crate) query: Option<usize>,
     pub(crate) wanted: Wanted,
 }
 
@@ -80,17 +66,17 @@ fn number(word: &[u8]) -> Option<u32> {
     str::from_utf8(word).ok()?.parse().ok()
 }
 
-// The words that are read so far.
+// What the words tell that are read so far; the words themselves are not kept, so that any number of them takes the same memory.
 #[derive(Clone, Copy)]
-struct Reading<'a> {
-    rules: Option<&'a [u8]>,
-    query: Option<&'a [u8]>,
+struct Reading {
+    rules: Option<usize>,
+    query: Option<usize>,
     wanted: Wanted,
     // The last word was `--budget`.
     in_budget: bool,
 }
 
-impl<'a> Reading<'a> {
+impl Reading {
     fn option(&mut self, word: &[u8]) -> Result<(), Unclear> {
         match word {
             b"--budget" => self.in_budget = true,
@@ -103,22 +89,16 @@ impl<'a> Reading<'a> {
         Ok(())
     }
 
-    // A word that is longer than any path is as an empty one, but for the query.
-    fn word(&mut self, typed: &'a [u8]) -> Result<(), Unclear> {
-        let word = if typed.len() <= LONGEST_PATH {
-            typed
-        } else {
-            &[]
-        };
+    fn word(&mut self, at: usize, word: &[u8]) -> Result<(), Unclear> {
         if self.in_budget {
             self.wanted.budget = number(word).ok_or(Unclear::Unknown)?;
             self.in_budget = false;
         } else if word.starts_with(b"-") {
             self.option(word)?;
         } else if self.rules.is_none() {
-            self.rules = Some(word);
+            self.rules = Some(at);
         } else if self.query.is_none() {
-            self.query = Some(typed);
+            self.query = Some(at);
         } else {
             return Err(Unclear::Unknown);
         }
@@ -126,9 +106,9 @@ impl<'a> Reading<'a> {
     }
 }
 
-impl<'a> Command<'a> {
-    // The first word that is no option is the rules' file, the second the query. Without an option a run has 10,000 steps.
-    pub(crate) fn read(words: &'a [Vec<u8>]) -> Result<Command<'a>, Unclear> {
+impl Command {
+    // The first word behind the program's name that is no option is the rules' file, the second the query. Without an option a run has 10,000 steps.
+    pub(crate) fn read(rt: &impl Env) -> Result<Command, Unclear> {
         let wanted = Wanted {
             budget: 10_000,
             numbers: false,
@@ -140,8 +120,13 @@ impl<'a> Command<'a> {
             wanted,
             in_budget: false,
         };
-        for word in words {
-            reading.word(word)?;
+        // A word that is longer than any path is as an empty one here; as the query it is read anew.
+        let mut buffer = [0; LONGEST_PATH];
+        for at in 1..usize::MAX {
+            let Some(word) = word(rt, at, &mut buffer) else {
+                break;
+            };
+            reading.word(at, word)?;
         }
         if reading.in_budget {
             return Err(Unclear::NoNumber);
