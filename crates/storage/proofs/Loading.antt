@@ -66,6 +66,20 @@ body-led (suc (suc (suc zero))) l h = refl
 body-led (suc (suc (suc (suc zero)))) l h = refl
 body-led (suc (suc (suc (suc (suc k))))) l h = absurd (omega arith)
 
+body-bare : (k : ℕ) → 1 ≤ k → k ≤ 2 → body_length k ≡ 2
+unfolding body_length
+body-bare zero l h = absurd (omega arith)
+body-bare (suc zero) l h = refl
+body-bare (suc (suc zero)) l h = refl
+body-bare (suc (suc (suc k))) l h = absurd (omega arith)
+
+-- where the record after a node's starts
+pub behind-bare : {s : List ℕ} {at : ℕ} → NodeAt s at → get_or s at 0 ≤ 2 → at + 3 ≡ at + 1 + body_length (get_or s at 0)
+behind-bare {s} {at} n h = omega (arith, body-bare (get_or s at 0) n.low h)
+
+pub behind-led : {s : List ℕ} {at : ℕ} → NodeAt s at → 2 < get_or s at 0 → at + 4 ≡ at + 1 + body_length (get_or s at 0)
+behind-led {s} {at} n h = omega (arith, body-led (get_or s at 0) h n.high)
+
 pub number-inside : {s : List ℕ} {at : ℕ} → NodeAt s at → at + 1 + 1 < length s
 number-inside {s} {at} n = omega (arith, n.body, body-some (get_or s at 0) n.low n.high)
 

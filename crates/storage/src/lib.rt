@@ -4,7 +4,7 @@
 ghost use Rattle.std.specs.Prelude.{◌≡◌, ◌+◌, ◌*◌, ◌<◌, ◌≤◌, ◌++◌, length, get_or, drop};
 ghost use Rattle.terms.specs.Node.{Expr};
 ghost use Rattle.search.specs.Next.{Goal, Book};
-ghost use Rattle.format.specs.Reading.{record_at, book_verdict, Askable};
+ghost use Rattle.format.specs.Reading.{body_length, record_at, book_verdict, Askable};
 ghost use Rattle.format.specs.Format.{encode_goal};
 ghost use Rattle.format.specs.Decode.{book_of, goal_of};
 ghost use Rattle.format.specs.Words.{word_of, goal_words, book_heads, word_bytes, words_bytes};
@@ -12,6 +12,25 @@ ghost use Rattle.storage.specs.Storage.{Written, Loaded, Stored, FormulaAt, Writ
 
 use records::record::{next_at, number_at};
 use words::arity;
+
+// The word of the node's record at a place, and where the record behind it starts. One test tells both, so that the next place need not wait for this kind.
+fn node_at(bytes: &[u8], at: usize) -> (u32, usize)
+    requires { NodeAt bytes.now at }
+    ensures word { result.0 ≡ word_of (record_at bytes.now at (get_or bytes.now at 0)) }
+    ensures past { result.1 ≡ at + 1 + body_length (get_or bytes.now at 0) }
+{
+    let kind = bytes[at];
+    if kind <= 2 {
+        return (
+            u32::from_be_bytes([kind, 0, bytes[at + 1], bytes[at + 2]]),
+            at + 3,
+        );
+    }
+    (
+        u32::from_be_bytes([kind, bytes[at + 3], bytes[at + 1], bytes[at + 2]]),
+        at + 4,
+    )
+}
 
 // The word of the node's record at a place: its kind, its arity and its number, which are its bytes in another order.
 fn word_at(bytes: &[u8], at: usize) -> u32
@@ -40,8 +59,8 @@ pub fn load_goal(query: &[u8], words: &mut [u32]) -> usize
     let mut n = 0;
     let mut at = 3;
     while at < query.len() {
-        let past = next_at(query, at); // in front of the write, so that the record is read once
-        words[n] = word_at(query, at);
+        let (word, past) = node_at(query, at);
+        words[n] = word;
         at = past;
         n += 1;
     }

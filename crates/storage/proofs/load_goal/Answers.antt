@@ -5,11 +5,8 @@ use Rattle.storage.proofs.load_goal.Goals as goal
 pub loop-at-init : goal.loop-at-init
 loop-at-init c = goal-start _ _ (λ i. omega (arith, c.type_inv.query i)) c.requires.askable c.requires.in_bounds
 
-pub next_at-past-requires : goal.next_at-past-requires
-next_at-past-requires c = search goal-loading
-
-pub word_at-requires : goal.word_at-requires
-word_at-requires c = search goal-loading
+pub node_at-word-requires : goal.node_at-word-requires
+node_at-word-requires c = search goal-loading
 
 pub bounds-words-n : goal.bounds-words-n
 bounds-words-n c = search goal-loading
