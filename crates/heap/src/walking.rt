@@ -26,12 +26,15 @@ pub struct Seen {
     pub walk: Walk,
 }
 
-// A level that is done gives way to the one before it.
+// A level that is done gives way to the one before it. Two tests: one condition of both would be computed at each node of a walk, without a branch.
 pub fn settled(levels: &[u16], w: Walk) -> Walk
     requires { (w.depth < 32768) × (2 * w.depth ≤ length levels.now) }
     ensures { result ≡ settled levels.now w }
 {
-    if 0 < w.due || w.depth == 0 {
+    if 0 < w.due {
+        return w;
+    }
+    if w.depth == 0 {
         return w;
     }
     let last = w.depth - 1;
